@@ -1,0 +1,165 @@
+-- The visits of NEAR, IN and MEET halve: a good row's split stands strictly between first and last, so the halves of a
+-- node share its segments, and the halves of a pair its pairs of segments.
+use mathlib.Core.Path.{_≡_, sym, _∙_, ap}
+use mathlib.Core.Bool.{Bool, true, false, not, cond, _&&_, _||_}
+use mathlib.Core.List.{List}
+use Prim.Native.Nat.{ℕ, zero, suc, _+_, _*_, _-_, _≤_, _<_}
+use native.Mathlib.Nat.{add-mul, mul-add, mul-pos, le-of-eq, le-of-lt}
+use native.Mathlib.Decide.{decLt}
+use native.Mathlib.Omega.{arith}
+use lib.Dec.{T, leb, leb→le, le→leb, nleb→lt}
+use lib.IntN.{ℤ}
+use Rattle.rules.specs.declared.Line.{Line}
+use Rattle.rules.specs.declared.Line.the-variants.{LineA, LineB}
+use Rattle.rules.specs.declared.Node.{Node}
+use Rattle.rules.specs.declared.Pair.{Pair}
+use Rattle.rules.specs.declared.Point.{Point}
+use Rattle.rules.specs.Sheet.{segmentsOf}
+use Rattle.rules.specs.Tree.{rowAt, rowCount}
+use Rattle.rules.specs.Plain.{within, share, onSegment}
+use Rattle.rules.specs.Rows.{good}
+use Rattle.rules.specs.Walk.{Visit, halve}
+use Rattle.rules.specs.Questions.{leftOf, rightOf, leaf, size, splitIn, readRow, openNode, startOf, endOf, headingOf, farFrom, nearVisit, apart, meetVisit, clearOf, inVisit}
+use Rattle.visits.proofs.Nodes.{good-read}
+use Rattle.allowance.proofs.Walks.{Shares, refuses, finishes, passes, halves, Halving}
+
+module _ {S N : Type 0} {Fine : ℕ → N → Type 0} {parts : N → ℕ} {f : ℕ} {n : N} where
+  -- a visit that goes by a test shares where both ways do
+  shares-cond : {x y : Visit S N} (b : Bool) → (T b → Shares Fine parts f n x) → (T (not b) → Shares Fine parts f n y)
+      → Shares Fine parts f n (cond b x y)
+  shares-cond true p q = p tt
+  shares-cond false p q = q tt
+
+  -- a bad row is refused
+  shares-row : {x : Visit S N} (l : Line) (ps t : List ℤ) (m : Node)
+      → (T (good ps (rowAt t (m .row)) (m .first) (m .last)) → Shares Fine parts f n x)
+      → Shares Fine parts f n (readRow l ps t m (λ r. x))
+  shares-row l ps t m h = shares-cond (good ps (rowAt t (m .row)) (m .first) (m .last)) h (λ _. refuses)
+
+  -- a child's row that is none is refused
+  shares-open : {x : Visit S N} (l : Line) (ps : List ℤ) (m : Node) (s : ℕ) → Shares Fine parts f n x
+      → Shares Fine parts f n (openNode l ps m s (λ a b. x))
+  shares-open l ps m s h =
+      shares-cond (leb (rowCount (segmentsOf ps)) (leftOf m s .row) || leb (rowCount (segmentsOf ps)) (rightOf m s .row))
+      (λ _. refuses) (λ _. h)
+
+-- a node of at least one segment, and of at most this many
+abbrev pub Spans : ℕ → Node → Type 0
+Spans f n = (n .first < n .last) × (n .last ≤ f + n .first)
+
+-- a split strictly between first and last
+abbrev Between : Node → ℕ → Type 0
+Between n s = (n .first < s) × (s < n .last)
+
+-- so a good row of more than one segment splits
+good-between : (ps t : List ℤ) (n : Node) → T (good ps (rowAt t (n .row)) (n .first) (n .last)) → n .first + 1 < n .last
+    → Between n (splitIn (rowAt t (n .row)))
+good-between ps t n g l = good-read ps (rowAt t (n .row)) (n .first) (n .last) g .split-between l
+
+-- the visit of a node that is neither dismissed nor a leaf
+open-halves : {S : Type 0} (l : Line) (f : ℕ) (ps t : List ℤ) (n : Node) → Spans (suc f) n
+    → T (good ps (rowAt t (n .row)) (n .first) (n .last)) → T (not (leaf n))
+    → Shares {S = S} Spans size f n (openNode l ps n (splitIn (rowAt t (n .row))) halve)
+open-halves l f ps t n h g e =
+    let s = splitIn (rowAt t (n .row)) in
+    let b : Between n s = good-between ps t n g (nleb→lt _ _ e) in
+    shares-open l ps n s (halves (leftOf n s) (rightOf n s) (omega arith) (omega arith) (omega arith))
+
+spans-level : (n : Node) → Spans zero n → ⊥
+spans-level n h = omega arith
+
+spans-part : (f : ℕ) (n : Node) → Spans f n → 1 ≤ size n
+spans-part f n h = omega arith
+
+-- NEAR's visits halve a node's segments
+pub near-halves : (l : Line) (ps t : List ℤ) (z : Point) (D : ℤ) → Halving Spans size (nearVisit l ps t z D)
+unfolding nearVisit
+near-halves l ps t z D = record {
+  no-level = spans-level;
+  some-part = spans-part;
+  shares = λ f n h.
+      shares-row l ps t n λ g.
+      shares-cond (farFrom (rowAt t (n .row)) (startOf ps n) (headingOf ps n) z D) (λ _. passes) λ _.
+      shares-cond (leaf n) (λ _. shares-cond (within z (startOf ps n) (endOf ps n) D) (λ _. finishes) (λ _. passes)) λ e.
+      open-halves l f ps t n h g e;
+}
+
+-- IN's visits too
+pub in-halves : (ps t : List ℤ) (z : Point) → Halving Spans size (inVisit ps t z)
+unfolding inVisit
+in-halves ps t z = record {
+  no-level = spans-level;
+  some-part = spans-part;
+  shares = λ f n h.
+      shares-row LineA ps t n λ g.
+      shares-cond (clearOf (rowAt t (n .row)) (startOf ps n) (headingOf ps n) z) (λ _. passes) λ _.
+      shares-cond (leaf n) (λ _. shares-cond (onSegment z (startOf ps n) (endOf ps n)) (λ _. finishes) (λ _. passes)) λ e.
+      open-halves LineA f ps t n h g e;
+}
+
+-- a pair of nodes of at least one segment each, and of at most this many together
+abbrev pub PairSpans : ℕ → Pair → Type 0
+PairSpans f n =
+    (n .a .first < n .a .last) × (n .b .first < n .b .last) × (n .a .last + n .b .last ≤ f + (n .a .first + n .b .first))
+
+-- the pairs of segments of a pair of nodes
+abbrev pub pairs : Pair → ℕ
+pairs n = size (n .a) * size (n .b)
+
+abbrev withA : Pair → Node → Pair
+withA n m = record { a = m; b = n .b }
+
+abbrev withB : Pair → Node → Pair
+withB n m = record { a = n .a; b = m }
+
+-- the halves of a node share its segments; so the halves of a pair, whichever of its nodes is split, share its pairs
+sizes : (n : Node) (s : ℕ) → Between n s → size (leftOf n s) + size (rightOf n s) ≡ size n
+sizes n s b = omega arith
+
+a-halves : {S : Type 0} (f : ℕ) (n : Pair) (s : ℕ) → PairSpans (suc f) n → Between (n .a) s
+    → Shares {S = S} PairSpans pairs f n (halve (withA n (leftOf (n .a) s)) (withA n (rightOf (n .a) s)))
+a-halves f n s h b =
+    halves (withA n (leftOf (n .a) s)) (withA n (rightOf (n .a) s)) (omega arith) (omega arith)
+    (le-of-eq (sym (add-mul _ _ _) ∙ ap (λ k. k * size (n .b)) (sizes (n .a) s b)))
+
+b-halves : {S : Type 0} (f : ℕ) (n : Pair) (s : ℕ) → PairSpans (suc f) n → Between (n .b) s
+    → Shares {S = S} PairSpans pairs f n (halve (withB n (leftOf (n .b) s)) (withB n (rightOf (n .b) s)))
+b-halves f n s h b =
+    halves (withB n (leftOf (n .b) s)) (withB n (rightOf (n .b) s)) (omega arith) (omega arith)
+    (le-of-eq (sym (mul-add _ _ _) ∙ ap (λ k. size (n .a) * k) (sizes (n .b) s b)))
+
+-- of a pair that is not two leaves, a node with no fewer segments than the other is no leaf
+larger-opens : (a b : Node) → (T (leaf a) → T (leaf b) → ⊥) → size b ≤ size a → a .first + 1 < a .last
+larger-opens a b e h = elim (decLt (a .first + 1) (a .last)) [
+  | yes l ↦ l
+  | no l ↦ absurd (e (le→leb (a .last) (a .first + 1) (omega arith)) (le→leb (b .last) (b .first + 1) (omega arith)))
+]
+
+not-both : (p q : Bool) → T (not (p && q)) → T p → T q → ⊥
+not-both true true n t u = n
+not-both true false n t u = u
+not-both false q n t u = t
+
+-- MEET's visits halve a pair's pairs of segments
+pub meet-halves : (ps t qs t′ : List ℤ) → Halving PairSpans pairs (meetVisit ps t qs t′)
+unfolding meetVisit
+meet-halves ps t qs t′ = record {
+  no-level = λ n h. omega arith;
+  some-part = λ f n h. mul-pos {m = size (n .a)} {n = size (n .b)} (omega arith) (omega arith);
+  shares = λ f n h.
+      shares-row LineA ps t (n .a) λ g.
+      shares-row LineB qs t′ (n .b) λ g′.
+      shares-cond
+      (apart (rowAt t (n .a .row)) (startOf ps (n .a)) (headingOf ps (n .a)) (rowAt t′ (n .b .row)) (startOf qs (n .b)) (headingOf qs (n .b)))
+      (λ _. passes) λ _.
+      shares-cond (leaf (n .a) && leaf (n .b))
+      (λ _. shares-cond (share (startOf ps (n .a)) (endOf ps (n .a)) (startOf qs (n .b)) (endOf qs (n .b))) (λ _. finishes) (λ _. passes)) λ e.
+      let no-leaves = not-both (leaf (n .a)) (leaf (n .b)) e in
+      shares-cond (leb (size (n .b)) (size (n .a)))
+      (λ k.
+      let l = larger-opens (n .a) (n .b) no-leaves (leb→le _ _ k) in
+      shares-open LineA ps (n .a) _ (a-halves f n _ h (good-between ps t (n .a) g l)))
+      (λ k.
+      let l = larger-opens (n .b) (n .a) (λ q p. no-leaves p q) (le-of-lt (nleb→lt _ _ k)) in
+      shares-open LineB qs (n .b) _ (b-halves f n _ h (good-between qs t′ (n .b) g′ l)));
+}

@@ -1,0 +1,2 @@
+-- What it means that the visits decide a question.
+pub mod Decides

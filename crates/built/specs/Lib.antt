@@ -1,0 +1,5 @@
+-- What the theorems about the described table say.
+pub mod BestSplit
+pub mod Lowest
+pub mod Accepted
+pub mod RowRange

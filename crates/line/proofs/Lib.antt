@@ -1,0 +1,2 @@
+-- Laws that the proofs of `line` share.
+pub mod Parts

@@ -1,0 +1,105 @@
+-- Document 01, "Figures to hold": P1 to P12 of the definitions, as one list under one theorem; and one small example for each
+-- of the "slips that look right" that the figures do not reach. All by computation.
+use mathlib.Core.Path.{_≡_, refl}
+use mathlib.Core.Bool.{Bool, true, false}
+use mathlib.Core.List.{List, [], _∷_}
+use mathlib.Core.Option.{none, some}
+use Prim.Native.Nat.{ℕ}
+use lib.IntN.{ℤ, pos, negsuc}
+use Rattle.rules.specs.declared.Line.the-variants.{LineB}
+use Rattle.rules.specs.declared.Point.{Point}
+use Rattle.rules.specs.Plane.{direction}
+use Rattle.rules.specs.Sheet.{between}
+use Rattle.rules.specs.Tree.{least, greatest, height, better, best, splitOf, rowAt, measured, rowsOf}
+use Rattle.rules.specs.Plain.{within, share, onSegment, crosses, joined, plainNear, plainMeet, plainOn, plainInside, plainAgree}
+use Rattle.rules.specs.Reply.{Reply, YES, NO, INSIDE, OUTSIDE, ON, UNDECIDED, says, disagrees}
+use Rattle.rules.specs.Walk.{walk}
+use Rattle.rules.specs.Rows.{good}
+use Rattle.rules.specs.Questions.{shortfall, farFrom, nearVisit, nearReply, beyondCorners, apart, meetVisit, meetReply, clearOf, inVisit, inReply, askAll, agreeWalk, agreeReply}
+use Rattle.rules.specs.Build.{lowest, buildRefusal, tableOf, holdsPoint, holdsRun, soundFrom, sound}
+
+abbrev at : ℕ → ℕ → Point
+at x y = record { x = pos x; y = pos y }
+
+-- L is (0,0) (4,3) (8,0)
+abbrev L : List ℤ
+L = pos 0 ∷ pos 0 ∷ pos 4 ∷ pos 3 ∷ pos 8 ∷ pos 0 ∷ []
+
+-- S is the square (0,0) (4,0) (4,4) (0,4) (0,0)
+abbrev S : List ℤ
+S = pos 0 ∷ pos 0 ∷ pos 4 ∷ pos 0 ∷ pos 4 ∷ pos 4 ∷ pos 0 ∷ pos 4 ∷ pos 0 ∷ pos 0 ∷ []
+
+-- (4,0) (4,2), and (4,0) (4,3)
+abbrev M : List ℤ
+M = pos 4 ∷ pos 0 ∷ pos 4 ∷ pos 2 ∷ []
+
+abbrev N : List ℤ
+N = pos 4 ∷ pos 0 ∷ pos 4 ∷ pos 3 ∷ []
+
+abbrev near : Point → ℕ → ℕ → Reply
+near z D allowance = nearReply L (tableOf L) z (pos D) allowance
+
+abbrev meet : List ℤ → Reply
+meet B = meetReply L (tableOf L) B (tableOf B) 99
+
+abbrev ring : Point → Reply
+ring z = inReply S (tableOf S) z 99
+
+pub P1-to-P12 :
+    (tableOf L
+    ≡ pos 0 ∷ pos 2 ∷ pos 1 ∷ pos 0 ∷ pos 24 ∷ pos 0 ∷ pos 64 ∷ pos 0 ∷ pos 8 ∷ pos 0 ∷ pos 3
+    ∷ pos 0 ∷ pos 1 ∷ negsuc 0 ∷ pos 0 ∷ pos 0 ∷ pos 0 ∷ pos 25 ∷ pos 0 ∷ pos 4 ∷ pos 0 ∷ pos 3
+    ∷ pos 1 ∷ pos 2 ∷ negsuc 0 ∷ pos 0 ∷ pos 0 ∷ pos 0 ∷ pos 25 ∷ pos 4 ∷ pos 8 ∷ pos 0 ∷ pos 3 ∷ [])  -- P1
+    × (near (at 4 5) 2 99 ≡ says YES 2)  -- P2
+    × (near (at 4 5) 1 99 ≡ says NO 1)  -- P3
+    × (near (at 4 5) 2 1 ≡ says UNDECIDED 1)  -- P4
+    × (near (at 4 5) 2 0 ≡ says UNDECIDED 0)  -- P4, likewise
+    × (near (at 4 0) 2 99 ≡ says NO 3)  -- P5
+    × (near (at 4 0) 3 99 ≡ says YES 2)  -- P6
+    × (meet M ≡ says NO 3)  -- P7
+    × (meet N ≡ says YES 2)  -- P8
+    × (ring (at 2 2) ≡ says INSIDE 7)  -- P9
+    × (ring (at 4 2) ≡ says ON 4)  -- P10
+    × (ring (at 5 2) ≡ says OUTSIDE 1)  -- P11
+    × (ring (at 3 1) ≡ says INSIDE 5)  -- P12
+unfolding tableOf rowsOf measured splitOf best better height least greatest rowAt direction between within share onSegment crosses
+    walk good shortfall farFrom nearVisit nearReply beyondCorners apart meetVisit meetReply clearOf inVisit inReply
+P1-to-P12 = (refl, refl, refl, refl, refl, refl, refl, refl, refl, refl, refl, refl, refl)
+
+-- ---- slips that look right, and that P1 to P12 do not reach
+-- a ray through a corner where the ring passes from below to above is counted once: from the middle of a diamond
+abbrev R : List ℤ
+R = pos 4 ∷ pos 0 ∷ pos 8 ∷ pos 4 ∷ pos 4 ∷ pos 8 ∷ pos 0 ∷ pos 4 ∷ pos 4 ∷ pos 0 ∷ []
+
+pub corner-counts-once : (plainInside R (at 4 4) ≡ true) × (inReply R (tableOf R) (at 4 4) 99 .word ≡ INSIDE)
+unfolding tableOf rowsOf measured splitOf best better height least greatest rowAt direction between onSegment crosses joined
+    walk good clearOf inVisit inReply plainInside
+corner-counts-once = (refl, refl)
+
+-- agreement is asked both ways: a stub does not agree with a long line, though each of its points is on it
+abbrev stub : List ℤ
+stub = pos 0 ∷ pos 0 ∷ pos 1 ∷ pos 0 ∷ []
+
+abbrev long : List ℤ
+long = pos 0 ∷ pos 0 ∷ pos 9 ∷ pos 0 ∷ []
+
+pub stub-disagrees :
+    (plainAgree stub long (pos 2) ≡ false)
+    × (agreeReply stub (tableOf stub) long (tableOf long) (pos 2) 99 ≡ disagrees LineB 1 4)
+    × (plainAgree long stub (pos 2) ≡ false)
+unfolding tableOf rowsOf measured splitOf best better height least greatest rowAt direction between within joined
+    walk good shortfall farFrom nearVisit askAll agreeWalk agreeReply plainNear plainAgree
+stub-disagrees = (refl, refl, refl)
+
+-- c is compared as it is: 4^2 > 1^2 * 10, though 16 / 10 is 1
+pub c-is-not-divided : within (at 2 2) (at 0 0) (at 3 1) (pos 1) ≡ false
+unfolding within
+c-is-not-divided = refl
+
+-- of two points as far from the chord, the one nearer to the middle splits; of two as near to it, the lower
+abbrev plateau : List ℤ
+plateau = pos 0 ∷ pos 0 ∷ pos 1 ∷ pos 2 ∷ pos 2 ∷ pos 2 ∷ pos 3 ∷ pos 2 ∷ pos 4 ∷ pos 2 ∷ pos 5 ∷ pos 0 ∷ []
+
+pub ties-go-to-the-middle-then-low : splitOf plateau 0 5 ≡ 2
+unfolding splitOf best better height direction
+ties-go-to-the-middle-then-low = refl

@@ -1,0 +1,10 @@
+-- Document 01 as definitions, in its order. Definitions compute, and none has a bound inside geometry.
+pub mod Plane
+pub mod Sheet
+pub mod Tree
+pub mod Plain
+pub mod Reply
+pub mod Walk
+pub mod Rows
+pub mod Questions
+pub mod Build

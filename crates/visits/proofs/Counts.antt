@@ -1,0 +1,124 @@
+-- Laws of what is joined over a row of numbers: some, every, an odd number of them. A run's segments are those of its halves.
+use mathlib.Core.Path.{_≡_, refl, sym, _∙_, ap, subst}
+use mathlib.Core.Bool.{Bool, true, false, _&&_, _||_, or-assoc, and-assoc, or-true}
+use Prim.Native.Nat.{ℕ, zero, suc, _+_, _≤_, _<_}
+use native.Mathlib.Decide.{ℕ-discrete}
+use native.Mathlib.Omega.{arith}
+use lib.Dec.{T}
+use mir.Facts.{and-yes}
+use Rattle.rules.specs.Plain.{joined, _⊕_, someOf, everyOf, oddOf}
+
+-- ---------------- the operations
+pub ⊕-assoc : (a b c : Bool) → a ⊕ b ⊕ c ≡ a ⊕ (b ⊕ c)
+⊕-assoc true true true = refl
+⊕-assoc true true false = refl
+⊕-assoc true false c = refl
+⊕-assoc false b c = refl
+
+pub ⊕-comm : (a b : Bool) → a ⊕ b ≡ b ⊕ a
+⊕-comm true true = refl
+⊕-comm true false = refl
+⊕-comm false true = refl
+⊕-comm false false = refl
+
+pub ⊕-false : (a : Bool) → a ⊕ false ≡ a
+⊕-false true = refl
+⊕-false false = refl
+
+-- ---------------- any associative operation with a unit on the left
+module _ (join : Bool → Bool → Bool) (none : Bool) (unit : (b : Bool) → join none b ≡ b)
+    (assoc : (a b c : Bool) → join (join a b) c ≡ join a (join b c)) (p : ℕ → Bool) where
+  joined-append : (i j k : ℕ) → joined join none p i (j + k) ≡ join (joined join none p i j) (joined join none p (i + j) k)
+  unfolding joined
+  joined-append i zero k = (λ d. joined join none p (start d) (rest d)) ∙ sym (unit (joined join none p (i + 0) k))
+    where
+      start : i ≡ i + 0
+      start = omega arith
+
+      rest : 0 + k ≡ k
+      rest = omega arith
+  joined-append i (suc j) k =
+      ap (joined join none p i) more
+      ∙ ap (join (p i)) (joined-append (suc i) j k ∙ ap (λ (m : ℕ). join (joined join none p (suc i) j) (joined join none p m k)) along)
+      ∙ sym (assoc (p i) (joined join none p (suc i) j) (joined join none p (i + suc j) k))
+    where
+      more : suc j + k ≡ suc (j + k)
+      more = omega arith
+
+      along : suc i + j ≡ i + suc j
+      along = omega arith
+
+-- two properties that are the same on the numbers i to i + k - 1 are joined to the same
+pub joined-same : (join : Bool → Bool → Bool) (none : Bool) (p q : ℕ → Bool) (i k : ℕ)
+    → ((j : ℕ) → i ≤ j → j < i + k → p j ≡ q j) → joined join none p i k ≡ joined join none q i k
+unfolding joined
+joined-same join none p q i zero h = refl
+joined-same join none p q i (suc k) h =
+    λ d. join (h i (omega arith) (omega arith) d) (joined-same join none p q (suc i) k (λ j l m. h j (omega arith) (omega arith)) d)
+
+pub someOf-append : (p : ℕ → Bool) (i j k : ℕ) → someOf p i (j + k) ≡ someOf p i j || someOf p (i + j) k
+someOf-append = joined-append _||_ false (λ b. refl) or-assoc
+
+pub everyOf-append : (p : ℕ → Bool) (i j k : ℕ) → everyOf p i (j + k) ≡ everyOf p i j && everyOf p (i + j) k
+everyOf-append = joined-append _&&_ true (λ b. refl) and-assoc
+
+pub oddOf-append : (p : ℕ → Bool) (i j k : ℕ) → oddOf p i (j + k) ≡ oddOf p i j ⊕ oddOf p (i + j) k
+oddOf-append = joined-append _⊕_ false (λ b. refl) ⊕-assoc
+
+-- ---------------- one number
+pub someOf-one : (p : ℕ → Bool) (i : ℕ) → someOf p i 1 ≡ p i
+unfolding joined
+someOf-one p i = go (p i)
+  where
+    go : (b : Bool) → b || false ≡ b
+    go true = refl
+    go false = refl
+
+pub oddOf-one : (p : ℕ → Bool) (i : ℕ) → oddOf p i 1 ≡ p i
+unfolding joined
+oddOf-one p i = ⊕-false (p i)
+
+-- ---------------- some
+pub someOf-none : (p : ℕ → Bool) (i k : ℕ) → ((j : ℕ) → i ≤ j → j < i + k → p j ≡ false) → someOf p i k ≡ false
+unfolding joined
+someOf-none p i zero h = refl
+someOf-none p i (suc k) h = λ d. h i (omega arith) (omega arith) d || someOf-none p (suc i) k (λ j l m. h j (omega arith) (omega arith)) d
+
+pub someOf-make : (p : ℕ → Bool) (i k j : ℕ) → i ≤ j → j < i + k → p j ≡ true → someOf p i k ≡ true
+unfolding joined
+someOf-make p i zero j l h e = absurd (omega arith)
+someOf-make p i (suc k) j l h e =
+    elim (ℕ-discrete i j) [
+      | yes q ↦ ap (λ (b : Bool). b || someOf p (suc i) k) (ap p q ∙ e)
+      | no q ↦ ap (λ (b : Bool). p i || b) (someOf-make p (suc i) k j (omega arith) (omega arith) e) ∙ or-true (p i)
+    ]
+
+abbrev pub Somewhere : (ℕ → Bool) → ℕ → ℕ → Type 0
+Somewhere p i k = (j : ℕ) × (i ≤ j) × (j < i + k) × (p j ≡ true)
+
+pub someOf-read : (p : ℕ → Bool) (i k : ℕ) → someOf p i k ≡ true → Somewhere p i k
+unfolding joined
+someOf-read p i zero e = absurd (let z : _≡_ {A = ℕ} 0 1 = cc in omega arith)
+someOf-read p i (suc k) e = go (p i) refl e (someOf-read p (suc i) k)
+  where
+    go : (b : Bool) → p i ≡ b → b || someOf p (suc i) k ≡ true → (someOf p (suc i) k ≡ true → Somewhere p (suc i) k) → Somewhere p i (suc k)
+    go true q e ih = (i, omega arith, omega arith, q)
+    go false q e ih = let r = ih e in (r .0, omega (arith, r .1), omega (arith, r .2), r .3)
+
+-- ---------------- every
+pub everyOf-read : (p : ℕ → Bool) (i k : ℕ) → T (everyOf p i k) → (j : ℕ) → i ≤ j → j < i + k → T (p j)
+unfolding joined
+everyOf-read p i zero h j l m = absurd (omega arith)
+everyOf-read p i (suc k) h j l m =
+    let q = and-yes (p i) (everyOf p (suc i) k) h in
+    elim (ℕ-discrete i j) [ yes e ↦ subst (λ (n : ℕ). T (p n)) e (q .0) | no e ↦ everyOf-read p (suc i) k (q .1) j (omega arith) (omega arith) ]
+
+pub everyOf-make : (p : ℕ → Bool) (i k : ℕ) → ((j : ℕ) → i ≤ j → j < i + k → T (p j)) → T (everyOf p i k)
+unfolding joined
+everyOf-make p i zero h = tt
+everyOf-make p i (suc k) h =
+    both (p i) (everyOf p (suc i) k) (h i (omega arith) (omega arith)) (everyOf-make p (suc i) k (λ j l m. h j (omega arith) (omega arith)))
+  where
+    both : (a b : Bool) → T a → T b → T (a && b)
+    both true b s t = t
+    both false b s t = s

@@ -1,0 +1,2 @@
+-- What the theorems about walks are said with.
+pub mod Truthful

@@ -1,0 +1,2 @@
+-- Theorems that stand beside the proofs of the functions.
+pub mod Uses
