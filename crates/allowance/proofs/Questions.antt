@@ -12,10 +12,11 @@ use Rattle.rules.specs.Sheet.{segmentsOf}
 use Rattle.rules.specs.Reply.{YES, NO, INSIDE, OUTSIDE, ON, says, disagrees, refuses}
 use Rattle.rules.specs.Rows.{lengthChecks, distanceCheck, askedCheck, ringCheck}
 use Rattle.rules.specs.Questions.{Nothing, yesOrNo, nearReply, meetReply, sideOfRing, inReply, agreed, agreeReply}
+use Rattle.visits.proofs.Checks.{some-segment, rest-none}
 use Rattle.allowance.specs.Decides.{Decides}
 use Rattle.allowance.proofs.Walks.{Outcome, hit, through, fault, told}
 use Rattle.allowance.proofs.Asking.{near-settled, in-settled, meet-settled, Findings, everyNear, farOff, faulty, found, agree-settled}
-use Rattle.allowance.proofs.Replies.{Speaks, speaks, settled-decides, clear-segments, clear-rest, checked-decides}
+use Rattle.allowance.proofs.Replies.{Speaks, speaks, settled-decides, checked-decides}
 
 -- ---- each reading of an outcome says one final reply
 refused-speaks : (number : ℕ) (line : Line) (place : ℕ)
@@ -44,25 +45,25 @@ pub near-decides : (ps t : List ℤ) (z : Point) (D : ℤ) → Decides (nearRepl
 unfolding nearReply
 near-decides ps t z D =
     let rest = distanceCheck D ∷ askedCheck z ∷ [] in
-    checked-decides (lengthChecks LineA ps t ++ rest) λ c.
-    settled-decides yesOrNo (λ a. refl) yes-or-no-speaks (near-settled LineA ps t z D (clear-segments LineA ps t rest c))
+    checked-decides (lengthChecks LineA ps t ++ rest) λ e.
+    settled-decides yesOrNo (λ a. refl) yes-or-no-speaks (near-settled LineA ps t z D (some-segment LineA ps t rest e))
 
 -- IN is decided by 2n - 1 visits
 pub in-decides : (ps t : List ℤ) (z : Point) → Decides (inReply ps t z) (2 * segmentsOf ps - 1)
 unfolding inReply
 in-decides ps t z =
     let rest = askedCheck z ∷ ringCheck LineA ps ∷ [] in
-    checked-decides (lengthChecks LineA ps t ++ rest) λ c.
-    settled-decides sideOfRing (λ a. refl) side-speaks (in-settled ps t z (clear-segments LineA ps t rest c))
+    checked-decides (lengthChecks LineA ps t ++ rest) λ e.
+    settled-decides sideOfRing (λ a. refl) side-speaks (in-settled ps t z (some-segment LineA ps t rest e))
 
 -- MEET is decided by 2nm - 1 visits
 pub meet-decides : (ps t qs t′ : List ℤ) → Decides (meetReply ps t qs t′) (2 * (segmentsOf ps * segmentsOf qs) - 1)
 unfolding meetReply
 meet-decides ps t qs t′ =
     let rest = lengthChecks LineB qs t′ in
-    checked-decides (lengthChecks LineA ps t ++ rest) λ c.
+    checked-decides (lengthChecks LineA ps t ++ rest) λ e.
     settled-decides yesOrNo (λ a. refl) yes-or-no-speaks
-    (meet-settled ps t qs t′ (clear-segments LineA ps t rest c) (clear-segments LineB qs t′ [] (clear-rest LineA ps t rest c)))
+    (meet-settled ps t qs t′ (some-segment LineA ps t rest e) (some-segment LineB qs t′ [] (rest-none LineA ps t rest e)))
 
 -- AGREE is decided by (n + 1)*(2m - 1) + (m + 1)*(2n - 1) visits
 pub agree-decides : (ps t qs t′ : List ℤ) (D : ℤ)
@@ -71,7 +72,7 @@ pub agree-decides : (ps t qs t′ : List ℤ) (D : ℤ)
 unfolding agreeReply
 agree-decides ps t qs t′ D =
     let rest = distanceCheck D ∷ [] in
-    checked-decides (lengthChecks LineA ps t ++ lengthChecks LineB qs t′ ++ rest) λ c.
+    checked-decides (lengthChecks LineA ps t ++ lengthChecks LineB qs t′ ++ rest) λ e.
     settled-decides agreed (λ a. refl) agreed-speaks
-    (agree-settled ps t qs t′ D (clear-segments LineA ps t (lengthChecks LineB qs t′ ++ rest) c)
-    (clear-segments LineB qs t′ rest (clear-rest LineA ps t (lengthChecks LineB qs t′ ++ rest) c)))
+    (agree-settled ps t qs t′ D (some-segment LineA ps t (lengthChecks LineB qs t′ ++ rest) e)
+    (some-segment LineB qs t′ rest (rest-none LineA ps t (lengthChecks LineB qs t′ ++ rest) e)))

@@ -1,20 +1,14 @@
 -- What is settled decides a question: an early refusal at once, else the outcome, read as a reply.
 use mathlib.Core.Path.{_≡_, refl, sym, _∙_, ap, subst}
-use mathlib.Core.Bool.{Bool, true, false, cond}
 use mathlib.Core.Logic.{_≢_}
-use mathlib.Core.List.{List, [], _∷_, _++_}
-use mathlib.Core.Option.{Option, none, some, IsSome}
-use Prim.Native.Nat.{ℕ, _≤_}
+use mathlib.Core.List.{List, [], _∷_}
+use mathlib.Core.Option.{Option, none, some}
+use Prim.Native.Nat.{ℕ}
 use native.Mathlib.Nat.{zero-add}
 use native.Mathlib.Omega.{arith}
-use borrow.Author.Tests.{ltb-false}
-use lib.IntN.{ℤ}
 use Rattle.whole.specs.Laws.{cond-ind}
-use Rattle.rules.specs.declared.Line.{Line}
 use Rattle.rules.specs.declared.Refusal.{Refusal}
 use Rattle.rules.specs.declared.Tally.{Tally}
-use Rattle.rules.specs.Sheet.{pointsOf, segmentsOf, fewest}
-use Rattle.rules.specs.Rows.{lengthChecks}
 use Rattle.rules.specs.Walk.{fresh}
 use Rattle.rules.specs.Reply.{Reply, Word, YES, NO, INSIDE, OUTSIDE, ON, UNDECIDED, REFUSED, Check, early, firstRefusal, orRefused, refuses, says}
 use Rattle.allowance.specs.Decides.{Decides}
@@ -77,36 +71,13 @@ early-visits [] = refl
 early-visits (k ∷ ks) =
     cond-ind (k .holds) (some (early k)) (firstRefusal ks) (λ o. visitsOf o ≡ 0) (λ _. refl) (λ _. early-visits ks)
 
--- none of these checks refuses
-abbrev pub Clear : List Check → Type 0
-Clear [] = Unit {0}
-Clear (k ∷ ks) = (k .holds ≡ false) × Clear ks
-
--- where no refusal is the first, none refuses
-clear : (ks : List Check) → firstRefusal ks ≡ none → Clear ks
-clear [] e = tt
-clear (k ∷ ks) e = go (k .holds) refl (clear ks) e
-  where
-    go : (b : Bool) → k .holds ≡ b → (firstRefusal ks ≡ none → Clear ks) → cond b (some (early k)) (firstRefusal ks) ≡ none
-        → Clear (k ∷ ks)
-    go true h ih e = absurd (subst IsSome e tt)
-    go false h ih e = (h, ih e)
-
--- a line whose lengths are not refused has a segment; the checks that follow are clear too
-module _ (l : Line) (ps t : List ℤ) (ks : List Check) (c : Clear (lengthChecks l ps t ++ ks)) where
-  pub clear-segments : 1 ≤ segmentsOf ps
-  clear-segments = let h = ltb-false (pointsOf ps) fewest (c .1 .0) in omega arith
-
-  pub clear-rest : Clear ks
-  clear-rest = c .1 .1 .1 .1
-
 -- a question whose checks come first is decided if it is decided where none of them refuses
-pub checked-decides : (ks : List Check) {reply : ℕ → Reply} {enough : ℕ} → (Clear ks → Decides reply enough)
+pub checked-decides : (ks : List Check) {reply : ℕ → Reply} {enough : ℕ} → (firstRefusal ks ≡ none → Decides reply enough)
     → Decides (λ allowance. orRefused (firstRefusal ks) (reply allowance)) enough
 checked-decides ks {reply} {enough} d = go (firstRefusal ks) refl
   where
     go : (o : Option Refusal) → firstRefusal ks ≡ o → Decides (λ allowance. orRefused o (reply allowance)) enough
-    go none e = d (clear ks e)
+    go none e = d e
     go (some f) e = record {
       needs = 0;
       answer = refuses f;

@@ -1,14 +1,14 @@
 -- The visits of NEAR, IN and MEET halve: a good row's split stands strictly between first and last, so the halves of a
 -- node share its segments, and the halves of a pair its pairs of segments.
 use mathlib.Core.Path.{_≡_, sym, _∙_, ap}
-use mathlib.Core.Bool.{Bool, true, false, not, cond, _&&_, _||_}
+use mathlib.Core.Bool.{Bool, not, cond, _&&_, _||_}
 use mathlib.Core.List.{List}
-use Prim.Native.Nat.{ℕ, zero, suc, _+_, _*_, _-_, _≤_, _<_}
-use native.Mathlib.Nat.{add-mul, mul-add, mul-pos, le-of-eq, le-of-lt}
-use native.Mathlib.Decide.{decLt}
+use Prim.Native.Nat.{ℕ, zero, suc, _+_, _*_, _≤_, _<_}
+use native.Mathlib.Nat.{add-mul, mul-add, mul-pos, le-of-eq}
 use native.Mathlib.Omega.{arith}
-use lib.Dec.{T, leb, leb→le, le→leb, nleb→lt}
+use lib.Dec.{T, leb, leb→le, nleb→lt}
 use lib.IntN.{ℤ}
+use Rattle.whole.specs.Laws.{cond-ind}
 use Rattle.rules.specs.declared.Line.{Line}
 use Rattle.rules.specs.declared.Line.the-variants.{LineA, LineB}
 use Rattle.rules.specs.declared.Node.{Node}
@@ -20,15 +20,14 @@ use Rattle.rules.specs.Plain.{within, share, onSegment}
 use Rattle.rules.specs.Rows.{good}
 use Rattle.rules.specs.Walk.{Visit, halve}
 use Rattle.rules.specs.Questions.{leftOf, rightOf, leaf, size, splitIn, readRow, openNode, startOf, endOf, headingOf, farFrom, nearVisit, apart, meetVisit, clearOf, inVisit}
-use Rattle.visits.proofs.Nodes.{good-read}
+use Rattle.visits.proofs.Nodes.{good-read, larger-opens}
 use Rattle.allowance.proofs.Walks.{Shares, refuses, finishes, passes, halves, Halving}
 
 module _ {S N : Type 0} {Fine : ℕ → N → Type 0} {parts : N → ℕ} {f : ℕ} {n : N} where
   -- a visit that goes by a test shares where both ways do
   shares-cond : {x y : Visit S N} (b : Bool) → (T b → Shares Fine parts f n x) → (T (not b) → Shares Fine parts f n y)
       → Shares Fine parts f n (cond b x y)
-  shares-cond true p q = p tt
-  shares-cond false p q = q tt
+  shares-cond b p q = cond-ind b _ _ (Shares Fine parts f n) p q
 
   -- a bad row is refused
   shares-row : {x : Visit S N} (l : Line) (ps t : List ℤ) (m : Node)
@@ -128,18 +127,6 @@ b-halves f n s h b =
     halves (withB n (leftOf (n .b) s)) (withB n (rightOf (n .b) s)) (omega arith) (omega arith)
     (le-of-eq (sym (mul-add _ _ _) ∙ ap (λ k. size (n .a) * k) (sizes (n .b) s b)))
 
--- of a pair that is not two leaves, a node with no fewer segments than the other is no leaf
-larger-opens : (a b : Node) → (T (leaf a) → T (leaf b) → ⊥) → size b ≤ size a → a .first + 1 < a .last
-larger-opens a b e h = elim (decLt (a .first + 1) (a .last)) [
-  | yes l ↦ l
-  | no l ↦ absurd (e (le→leb (a .last) (a .first + 1) (omega arith)) (le→leb (b .last) (b .first + 1) (omega arith)))
-]
-
-not-both : (p q : Bool) → T (not (p && q)) → T p → T q → ⊥
-not-both true true n t u = n
-not-both true false n t u = u
-not-both false q n t u = t
-
 -- MEET's visits halve a pair's pairs of segments
 pub meet-halves : (ps t qs t′ : List ℤ) → Halving PairSpans pairs (meetVisit ps t qs t′)
 unfolding meetVisit
@@ -154,12 +141,9 @@ meet-halves ps t qs t′ = record {
       (λ _. passes) λ _.
       shares-cond (leaf (n .a) && leaf (n .b))
       (λ _. shares-cond (share (startOf ps (n .a)) (endOf ps (n .a)) (startOf qs (n .b)) (endOf qs (n .b))) (λ _. finishes) (λ _. passes)) λ e.
-      let no-leaves = not-both (leaf (n .a)) (leaf (n .b)) e in
       shares-cond (leb (size (n .b)) (size (n .a)))
+      (λ k. shares-open LineA ps (n .a) _ (a-halves f n _ h (good-between ps t (n .a) g (larger-opens (n .a) (n .b) e (leb→le _ _ k)))))
       (λ k.
-      let l = larger-opens (n .a) (n .b) no-leaves (leb→le _ _ k) in
-      shares-open LineA ps (n .a) _ (a-halves f n _ h (good-between ps t (n .a) g l)))
-      (λ k.
-      let l = larger-opens (n .b) (n .a) (λ q p. no-leaves p q) (le-of-lt (nleb→lt _ _ k)) in
-      shares-open LineB qs (n .b) _ (b-halves f n _ h (good-between qs t′ (n .b) g′ l)));
+      let l = nleb→lt (size (n .b)) (size (n .a)) k in
+      shares-open LineB qs (n .b) _ (b-halves f n _ h (good-between qs t′ (n .b) g′ (omega arith))));
 }

@@ -9,15 +9,14 @@ use borrow.Author.Tests.{le-leb, lt-leb, lt-ltb, leb-true}
 use lib.IntN.{ℤ, pos}
 use lib.Signed.{_≤ℤ_}
 use mir.Facts.{and-yes}
-use Rattle.whole.specs.Poly.{con, _:+_, _:*_, _:-_}
-use Rattle.whole.specs.Check.{_:=_, ring}
 use Rattle.whole.specs.Order.{≤ℤ-trans, T-true, yes-T, le-true, yes-eqZ}
 use Rattle.rules.specs.declared.Point.{Point}
-use Rattle.rules.specs.Plane.{eqZ, samePoint, direction, cAt, tAt}
+use Rattle.rules.specs.Plane.{eqZ, samePoint, direction}
 use Rattle.rules.specs.Sheet.{point, onSheet, inSheet}
 use Rattle.rules.specs.Tree.{nodeC, nodeT, least, greatest, isLeaf, noSplit, measured}
 use Rattle.rules.specs.Rows.{splitGood, sideGood, leafGood, good}
 use Rattle.rules.specs.Build.{holdsNumber, holdsPoint}
+use Rattle.visits.proofs.Terms.{c-start, t-start}
 use Rattle.built.proofs.Extents.{least-below, greatest-above, least-all, greatest-all}
 
 -- ---------------- tests that hold
@@ -34,14 +33,6 @@ y-on p e = yes-T (inSheet (p .y)) (and-yes (inSheet (p .x)) (inSheet (p .y)) (T-
 
 same-number : (v : ℤ) → eqZ v v ≡ true
 same-number v = yes-T (eqZ v v) (yes-eqZ {a = v} {b = v} refl)
-
--- ---------------- c and t at the first point
-
-c-start : (s u : Point) → cAt s u s ≡ pos 0
-c-start s u = ring 4 (λ a b x y. a :* (y :- y) :- b :* (x :- x) := con (pos 0)) tt (u .x) (u .y) (s .x) (s .y)
-
-t-start : (s u : Point) → tAt s u s ≡ pos 0
-t-start s u = ring 4 (λ a b x y. a :* (x :- x) :+ b :* (y :- y) := con (pos 0)) tt (u .x) (u .y) (s .x) (s .y)
 
 -- ---------------- the least and the greatest of f over the points first to last
 

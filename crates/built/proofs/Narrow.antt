@@ -6,11 +6,10 @@ use mathlib.Core.List.{List, [], _∷_, _++_}
 use Prim.Native.Nat.{ℕ, zero, suc, _*_, _-_, _≤_, _<_}
 use native.Mathlib.Omega.{arith}
 use lib.IntN.{ℤ, pos, negℤ}
-use lib.Signed.{leZ, leZ-yes}
-use mir.Facts.{and-yes, leb-no}
+use mir.Facts.{leb-no}
 use mir.Syntax.{w32}
 use Rattle.whole.specs.Laws.{cond-ind}
-use Rattle.whole.specs.Poly.{_:+_, _:*_, _:-_}
+use Rattle.whole.specs.Poly.{_:-_}
 use Rattle.whole.specs.Order.{T-true}
 use Rattle.whole.specs.Range.{Abs≤, Each, nil, _&_, abs-of, within, fits-of}
 use Rattle.rules.specs.declared.Point.{Point}
@@ -19,6 +18,8 @@ use Rattle.rules.specs.Plane.{samePoint, step, direction, cAt, tAt}
 use Rattle.rules.specs.Sheet.{point, segmentsOf, most, limit, between, inSheet, onSheet}
 use Rattle.rules.specs.Tree.{nodeC, nodeT, least, greatest, splitOf, numbers, measured, noSplit, isLeaf, rowsOf}
 use Rattle.rules.specs.Build.{tableOf}
+use Rattle.visits.proofs.Terms.{cE, tE}
+use Rattle.visits.proofs.Held.{number-held}
 use Rattle.built.specs.RowRange.{stripMost, RowRange, AllFit}
 use Rattle.built.specs.Accepted.{Accepted}
 use Rattle.built.proofs.Rows.{split-between}
@@ -29,7 +30,7 @@ use Rattle.built.proofs.Measured.{x-on, y-on}
 -- a coordinate on the sheet
 pub sheet-abs : (v : ℤ) → inSheet v ≡ true → Abs≤ limit v
 unfolding between
-sheet-abs v e = let b = and-yes (leZ (negℤ (pos limit)) v) (leZ v (pos limit)) (T-true e) in abs-of (leZ-yes (b .0)) (leZ-yes (b .1))
+sheet-abs v e = let b = number-held (negℤ (pos limit)) (pos limit) v (T-true e) in abs-of (b .0) (b .1)
 
 -- the direction between two points on the sheet
 abbrev Steps : Point → Type 0
@@ -54,10 +55,10 @@ module _ (s u p : Point) (hs : onSheet s ≡ true) (hu : Steps u) (hp : onSheet 
       & nil
 
   pub c-abs : Abs≤ stripMost (cAt s u p)
-  c-abs = within 6 (λ a b x y v w. a :* (w :- y) :- b :* (v :- x)) six
+  c-abs = within 6 (λ ux uy sx sy px py. cE sx sy ux uy px py) six
 
   pub t-abs : Abs≤ stripMost (tAt s u p)
-  t-abs = within 6 (λ a b x y v w. a :* (v :- x) :+ b :* (w :- y)) six
+  t-abs = within 6 (λ ux uy sx sy px py. tE sx sy ux uy px py) six
 
 -- ---------------- the measured row of a run on the sheet
 

@@ -1,9 +1,9 @@
 -- Building refuses nothing exactly when the line and the table are accepted; and the place of refusals 4 and 5 is the
 -- lowest point that is at fault.
-use mathlib.Core.Path.{_≡_, refl, ap, _∙_}
-use mathlib.Core.Bool.{Bool, true, false, not, cond}
+use mathlib.Core.Path.{_≡_, refl, sym, ap, _∙_}
+use mathlib.Core.Bool.{Bool, true, false, not, cond, true≢false}
 use mathlib.Core.List.{List, [], _∷_, _++_}
-use mathlib.Core.Option.{none, some}
+use mathlib.Core.Option.{none}
 use mathlib.Core.Logic.{⊎-elim}
 use Prim.Native.Nat.{ℕ, zero, suc, _%_, _≤_, _<_}
 use native.Mathlib.Decide.{ℕ-discrete}
@@ -16,15 +16,13 @@ use lib.ListN.{length}
 use Rattle.rules.specs.declared.Line.{Line}
 use Rattle.rules.specs.declared.Line.the-variants.{LineA}
 use Rattle.rules.specs.Sheet.{point, pointsOf, segmentsOf, fewest, most, onSheet}
-use Rattle.rules.specs.Reply.{Check, early, firstRefusal}
+use Rattle.rules.specs.Reply.{Check}
 use Rattle.rules.specs.Rows.{pointChecks, tableCheck, lengthChecks}
 use Rattle.rules.specs.Build.{lowest, offSheet, equalNext, sheetCheck, neighbourCheck, buildRefusal}
 use Rattle.built.specs.Lowest.{Lowest}
 use Rattle.built.specs.Accepted.{rowNumbers, Accepted}
 use Rattle.built.proofs.Rows.{≤-or->}
-
-clash : {b : Bool} → b ≡ true → b ≡ false → ⊥
-clash p q = let z : _≡_ {A = ℕ} 0 1 = cc in omega arith
+pub use Rattle.visits.proofs.Checks.{Clear, none-clear, clear-none}
 
 -- ---------------- the lowest number that has p
 
@@ -53,33 +51,14 @@ lowest-unique p i k m n a b = le-antisymm (at-most a b) (at-most b a)
   where
     at-most : {m n : ℕ} → Lowest p i k m → Lowest p i k n → m ≤ n
     at-most {m} {n} a b =
-        ⊎-elim (λ h. h) (λ h. absurd (clash (b .found (omega (arith, a .upto))) (a .before n (b .from) h))) (≤-or-> m n)
+        ⊎-elim (λ h. h) (λ h. absurd (true≢false (sym (b .found (omega (arith, a .upto))) ∙ a .before n (b .from) h))) (≤-or-> m n)
 
--- ---------------- the first refusal
+-- ---------------- building
 
+-- pairs of pairs, as Clear asks for them
 infixr 4 _then_
 pub _then_ : {A B : Type 0} → A → B → A × B
 a then b = (a, b)
-
--- not one of the checks holds
-abbrev pub Clear : List Check → Type 0
-Clear [] = Unit {0}
-Clear (k ∷ ks) = (k .holds ≡ false) × Clear ks
-
--- nothing is refused exactly where no check holds
-pub none-clear : (ks : List Check) → firstRefusal ks ≡ none → Clear ks
-none-clear [] e = tt
-none-clear (k ∷ ks) e = go (k .holds) e (none-clear ks)
-  where
-    go : (b : Bool) → cond b (some (early k)) (firstRefusal ks) ≡ none → (firstRefusal ks ≡ none → Clear ks) → (b ≡ false) × Clear ks
-    go true e f = absurd (let z : _≡_ {A = ℕ} 0 1 = cc in omega arith)
-    go false e f = (refl, f e)
-
-pub clear-none : (ks : List Check) → Clear ks → firstRefusal ks ≡ none
-clear-none [] c = refl
-clear-none (k ∷ ks) c = ap (λ (b : Bool). cond b (some (early k)) (firstRefusal ks)) (c .0) ∙ clear-none ks (c .1)
-
--- ---------------- building
 
 -- the lowest number that has p is none of the k
 none-has : (p : ℕ → Bool) (k : ℕ) → ltb (lowest p 0 k) k ≡ false → (j : ℕ) → j < k → p j ≡ false
@@ -88,7 +67,7 @@ none-has p k e j h = lowest-is p 0 k .before j (omega arith) (omega (arith, ltb-
 has-none : (p : ℕ → Bool) (k : ℕ) → ((j : ℕ) → j < k → p j ≡ false) → ltb (lowest p 0 k) k ≡ false
 has-none p k h =
     let n = lowest p 0 k in
-    le-ltb n k (⊎-elim (λ l. l) (λ l. absurd (clash (lowest-is p 0 k .found (omega arith)) (h n l))) (≤-or-> k n))
+    le-ltb n k (⊎-elim (λ l. l) (λ l. absurd (true≢false (sym (lowest-is p 0 k .found (omega arith)) ∙ h n l))) (≤-or-> k n))
 
 module _ (ps t : List ℤ) where
   -- the checks of lengths, of whichever line

@@ -15,9 +15,10 @@ use Rattle.rules.specs.Tree.{width, rowCount}
 use Rattle.rules.specs.Reply.{firstRefusal}
 use Rattle.rules.specs.Rows.{lengthChecks}
 use Rattle.rules.specs.Build.{buildRefusal, tableOf, unlessRefused, builtTable}
+use Rattle.visits.proofs.Checks.{clear-none}
 use Rattle.built.specs.Accepted.{rowNumbers, Accepted}
 use Rattle.built.proofs.Rows.{count-rows}
-use Rattle.built.proofs.Refusals.{accepted, none-refused, lengths-clear, clear-none}
+use Rattle.built.proofs.Refusals.{accepted, none-refused, lengths-clear}
 
 -- a line's table has 2n - 1 rows
 pub table-length : (ps : List ℤ) → fewest ≤ pointsOf ps → length (tableOf ps) ≡ rowNumbers ps

@@ -7,8 +7,8 @@ use lib.Signed.{_≤ℤ_, _<ℤ_}
 use Rattle.whole.specs.Poly.{Expr, con, _:+_, _:*_}
 use Rattle.whole.specs.Check.{Stmt, _:≤_, _:<_, _:=_, Cert, hyp, mul, _⊞_, _⊠_, prove, refute}
 use Rattle.rules.specs.declared.Point.{Point}
+use Rattle.visits.proofs.Affine.{Affine}
 use Rattle.meet_truth.specs.Meeting.{Meeting}
-use Rattle.meet_truth.proofs.Affine.{Affine}
 
 -- an affine f has one value at the shared point, whichever segment's weights it is counted with
 balanced : {a b c d : Point} {f : Point → ℤ} → Affine f → (m : Meeting a b c d)

@@ -1,15 +1,16 @@
 -- The plain answer of MEET, in words, and the same for A and B exchanged.
-use mathlib.Core.Path.{_≡_, sym, _∙_}
+use mathlib.Core.Path.{_≡_, _∙_}
 use mathlib.Core.Bool.{true, false}
 use mathlib.Core.List.{List}
 use mathlib.Core.Logic.{_↔_}
 use Prim.Native.Nat.{suc}
 use native.Mathlib.Omega.{arith}
 use lib.IntN.{ℤ}
-use Rattle.whole.specs.Order.{T-true, T-false, T-iff, yes-T, no-T}
+use Rattle.whole.specs.Order.{T-true, T-iff, yes-T}
 use Rattle.rules.specs.declared.Point.{Point}
 use Rattle.rules.specs.Sheet.{point, segmentsOf}
 use Rattle.rules.specs.Plain.{share, someOf, segmentsShare, plainMeet}
+use Rattle.visits.proofs.Tests.{no-exactly}
 use Rattle.visits.proofs.Counts.{someOf-make, someOf-read}
 use Rattle.meet_truth.specs.Meeting.{LinesMeet}
 use Rattle.meet_truth.proofs.Test.{passed-read, passed-make, passed-swaps}
@@ -29,10 +30,7 @@ meet-some ps qs = (
 
 -- and no exactly when no two have
 pub meet-none : (ps qs : List ℤ) → (plainMeet ps qs ≡ false) ↔ (LinesMeet ps qs → ⊥)
-meet-none ps qs = (
-  λ e m. T-false (sym (meet-some ps qs .1 m) ∙ e),
-  λ n. no-T (plainMeet ps qs) (λ t. n (meet-some ps qs .0 (yes-T (plainMeet ps qs) t))),
-)
+meet-none ps qs = no-exactly (plainMeet ps qs) (meet-some ps qs)
 
 -- the exact test does not turn on which segment comes first
 pub share-swaps : (a b c d : Point) → share a b c d ≡ share c d a b

@@ -13,10 +13,11 @@ use Rattle.whole.specs.Order.{≤ℤ-or-<ℤ, ≤-<ℤ-trans, ≤ℤ-antisym, <
 use Rattle.rules.specs.declared.Point.{Point}
 use Rattle.rules.specs.Plane.{step, cAt}
 use Rattle.rules.specs.Plain.{share}
+use Rattle.visits.proofs.Terms.{c-start}
+use Rattle.visits.proofs.Affine.{Affine, x-affine, y-affine, c-affine}
 use Rattle.meet_truth.specs.Meeting.{Meeting}
-use Rattle.meet_truth.proofs.Affine.{Affine, x-affine, y-affine, c-affine}
 use Rattle.meet_truth.proofs.Parted.{parted-below, parted-above, meeting-swaps, meeting-turns}
-use Rattle.meet_truth.proofs.Test.{Reaches, Overlap, overlap-turns, Neither, flip, across, zeros, Passed, passed-read, passed-make, passed-turns, cE, c-turns}
+use Rattle.meet_truth.proofs.Test.{Reaches, Overlap, overlap-turns, Neither, flip, across, zeros, Passed, passed-read, passed-make, passed-turns, cOf, c-turns}
 
 -- ---------------- a shared point passes the test
 
@@ -29,15 +30,12 @@ module _ {a b c d : Point} (m : Meeting a b c d) where
   -- c of a to b is 0 at a and at b, so it parts nothing
   neither : Neither (cAt a (step a b) c) (cAt a (step a b) d)
   neither = (
-    λ k l. parted-above (c-affine a (step a b)) m (pos 0) (≡→≤ℤ at-start) (≡→≤ℤ at-end) k l,
-    λ k l. parted-below (c-affine a (step a b)) m (pos 0) (≡→≤ℤ (sym at-start)) (≡→≤ℤ (sym at-end)) k l,
+    λ k l. parted-above (c-affine a (step a b)) m (pos 0) (≡→≤ℤ (c-start a (step a b))) (≡→≤ℤ at-end) k l,
+    λ k l. parted-below (c-affine a (step a b)) m (pos 0) (≡→≤ℤ (sym (c-start a (step a b)))) (≡→≤ℤ (sym at-end)) k l,
   )
     where
-      at-start : cAt a (step a b) a ≡ pos 0
-      at-start = ring 4 (λ ax ay bx by. cE ax ay bx by ax ay := con (pos 0)) tt (a .x) (a .y) (b .x) (b .y)
-
       at-end : cAt a (step a b) b ≡ pos 0
-      at-end = ring 4 (λ ax ay bx by. cE ax ay bx by bx by := con (pos 0)) tt (a .x) (a .y) (b .x) (b .y)
+      at-end = ring 4 (λ ax ay bx by. cOf ax ay bx by bx by := con (pos 0)) tt (a .x) (a .y) (b .x) (b .y)
 
 -- whoever meets passes the test
 meeting-passes : {a b c d : Point} → Meeting a b c d → Passed a b c d
@@ -53,7 +51,7 @@ meeting-passes m = let m′ = meeting-swaps m in record {
 -- c(c) − c(d) of a to b is c(b) − c(a) of c to d
 turn : (a b c d : Point) → cAt a (step a b) c -ℤ cAt a (step a b) d ≡ cAt c (step c d) b -ℤ cAt c (step c d) a
 turn a b c d =
-    ring 8 (λ ax ay bx by cx cy dx dy. cE ax ay bx by cx cy :- cE ax ay bx by dx dy := cE cx cy dx dy bx by :- cE cx cy dx dy ax ay) tt
+    ring 8 (λ ax ay bx by cx cy dx dy. cOf ax ay bx by cx cy :- cOf ax ay bx by dx dy := cOf cx cy dx dy bx by :- cOf cx cy dx dy ax ay) tt
     (a .x) (a .y) (b .x) (b .y) (c .x) (c .y) (d .x) (d .y)
 
 -- where c falls from c to d, each end is weighed by c at the other end of its segment
@@ -70,12 +68,12 @@ crossed a b c d h l = record {
   p+q>0 = prove 2 (λ u v. ((u :< v) ∷ [], con (pos 0) :< v :+ :neg u, hyp 0)) tt cA cB m;
   r+s>0 = prove 2 (λ u v. ((u :< v) ∷ [], con (pos 0) :< :neg u :+ v, hyp 0)) tt cD cC l;
   same-x = ring 8 (λ ax ay bx by cx cy dx dy.
-      (:neg (cE ax ay bx by dx dy) :+ cE ax ay bx by cx cy) :* (cE cx cy dx dy bx by :* ax :+ :neg (cE cx cy dx dy ax ay) :* bx)
-      := (cE cx cy dx dy bx by :+ :neg (cE cx cy dx dy ax ay)) :* (:neg (cE ax ay bx by dx dy) :* cx :+ cE ax ay bx by cx cy :* dx)) tt
+      (:neg (cOf ax ay bx by dx dy) :+ cOf ax ay bx by cx cy) :* (cOf cx cy dx dy bx by :* ax :+ :neg (cOf cx cy dx dy ax ay) :* bx)
+      := (cOf cx cy dx dy bx by :+ :neg (cOf cx cy dx dy ax ay)) :* (:neg (cOf ax ay bx by dx dy) :* cx :+ cOf ax ay bx by cx cy :* dx)) tt
       (a .x) (a .y) (b .x) (b .y) (c .x) (c .y) (d .x) (d .y);
   same-y = ring 8 (λ ax ay bx by cx cy dx dy.
-      (:neg (cE ax ay bx by dx dy) :+ cE ax ay bx by cx cy) :* (cE cx cy dx dy bx by :* ay :+ :neg (cE cx cy dx dy ax ay) :* by)
-      := (cE cx cy dx dy bx by :+ :neg (cE cx cy dx dy ax ay)) :* (:neg (cE ax ay bx by dx dy) :* cy :+ cE ax ay bx by cx cy :* dy)) tt
+      (:neg (cOf ax ay bx by dx dy) :+ cOf ax ay bx by cx cy) :* (cOf cx cy dx dy bx by :* ay :+ :neg (cOf cx cy dx dy ax ay) :* by)
+      := (cOf cx cy dx dy bx by :+ :neg (cOf cx cy dx dy ax ay)) :* (:neg (cOf ax ay bx by dx dy) :* cy :+ cOf ax ay bx by cx cy :* dy)) tt
       (a .x) (a .y) (b .x) (b .y) (c .x) (c .y) (d .x) (d .y);
 }
   where
@@ -139,13 +137,13 @@ between {f} h a b c d e l m n = record {
   r+s>0 = prove 3 (λ u v w. ((u :< w) ∷ [], con (pos 0) :< w :- v :+ (v :- u), hyp 0)) tt (f c) (f a) (f d) n;
   same-x =
       prove 13 (λ α β γ ax ay bx cx cy dx dy fa fc fd. (
-        (cE cx cy dx dy ax ay := con (pos 0)) ∷ (fa := α :* ax :+ β :* ay :+ γ) ∷ (fc := α :* cx :+ β :* cy :+ γ) ∷ (fd := α :* dx :+ β :* dy :+ γ) ∷ [],
+        (cOf cx cy dx dy ax ay := con (pos 0)) ∷ (fa := α :* ax :+ β :* ay :+ γ) ∷ (fc := α :* cx :+ β :* cy :+ γ) ∷ (fd := α :* dx :+ β :* dy :+ γ) ∷ [],
         (fd :- fa :+ (fa :- fc)) :* (con (pos 1) :* ax :+ con (pos 0) :* bx) := (con (pos 1) :+ con (pos 0)) :* ((fd :- fa) :* cx :+ (fa :- fc) :* dx),
         mul (:neg β) 0 ⊞ mul (cx :- dx) 1 ⊞ mul (dx :- ax) 2 ⊞ mul (ax :- cx) 3,
       )) tt (h .α) (h .β) (h .γ) (a .x) (a .y) (b .x) (c .x) (c .y) (d .x) (d .y) (f a) (f c) (f d) e (h .is a) (h .is c) (h .is d);
   same-y =
       prove 13 (λ α β γ ax ay by cx cy dx dy fa fc fd. (
-        (cE cx cy dx dy ax ay := con (pos 0)) ∷ (fa := α :* ax :+ β :* ay :+ γ) ∷ (fc := α :* cx :+ β :* cy :+ γ) ∷ (fd := α :* dx :+ β :* dy :+ γ) ∷ [],
+        (cOf cx cy dx dy ax ay := con (pos 0)) ∷ (fa := α :* ax :+ β :* ay :+ γ) ∷ (fc := α :* cx :+ β :* cy :+ γ) ∷ (fd := α :* dx :+ β :* dy :+ γ) ∷ [],
         (fd :- fa :+ (fa :- fc)) :* (con (pos 1) :* ay :+ con (pos 0) :* by) := (con (pos 1) :+ con (pos 0)) :* ((fd :- fa) :* cy :+ (fa :- fc) :* dy),
         mul α 0 ⊞ mul (cy :- dy) 1 ⊞ mul (dy :- ay) 2 ⊞ mul (ay :- cy) 3,
       )) tt (h .α) (h .β) (h .γ) (a .x) (a .y) (b .y) (c .x) (c .y) (d .x) (d .y) (f a) (f c) (f d) e (h .is a) (h .is c) (h .is d);

@@ -1,19 +1,21 @@
 -- Document 01's exact test of two segments, read and made: its parts as facts, and how they turn with the ends.
 use mathlib.Core.Path.{_≡_, sym, subst₂}
-use mathlib.Core.Bool.{Bool, true, false, not, _&&_}
+use mathlib.Core.Bool.{Bool, not, _&&_}
 use mathlib.Core.List.{[], _∷_}
 use mathlib.Core.Logic.{⊎-elim}
 use lib.Dec.{T}
 use lib.IntN.{ℤ, pos, negℤ}
 use lib.Signed.{leZ, ltZ, _≤ℤ_, _<ℤ_, leZ-yes, ltZ-yes}
-use mir.Facts.{not-T, and-yes, yes-and, or-yes, or-no}
+use mir.Facts.{T-not, not-T, and-yes, yes-and, or-no}
 use Rattle.whole.specs.Laws.{zarith}
-use Rattle.whole.specs.Poly.{Expr, con, _:*_, _:-_, :neg}
+use Rattle.whole.specs.Poly.{Expr, con, _:-_, :neg}
 use Rattle.whole.specs.Check.{_:<_, _:=_, hyp, ring, prove}
 use Rattle.whole.specs.Order.{minZ, maxZ, min-l, min-r, min-greatest, max-l, max-r, max-least, ≤ℤ-or-<ℤ, ≤ℤ-trans, ≤ℤ-antisym}
 use Rattle.rules.specs.declared.Point.{Point}
 use Rattle.rules.specs.Plane.{step, cAt}
 use Rattle.rules.specs.Plain.{rangesOverlap, boxesOverlap, oneSide, share}
+use Rattle.visits.proofs.Tests.{either}
+use Rattle.visits.proofs.Terms.{cE}
 
 -- ---------------- the ranges overlap
 
@@ -51,17 +53,14 @@ neither-read p q t =
     (λ k l. not-both (ltZ (pos 0) p) (ltZ (pos 0) q) (h .0) (k .lt) (l .lt), λ k l. not-both (ltZ p (pos 0)) (ltZ q (pos 0)) (h .1) (k .lt) (l .lt))
   where
     not-both : (a b : Bool) → T (not (a && b)) → T a → T b → ⊥
-    not-both true true n s t = n
-    not-both true false n s t = t
-    not-both false b n s t = s
+    not-both a b n s t = T-not (a && b) (yes-and a b s t) n
 
 neither-make : (p q : ℤ) → Neither p q → T (not (oneSide p q))
 neither-make p q n =
     not-T (oneSide p q)
-    (λ t. ⊎-elim
+    (either (ltZ (pos 0) p && ltZ (pos 0) q) (ltZ p (pos 0) && ltZ q (pos 0))
     (λ u. let h = and-yes (ltZ (pos 0) p) (ltZ (pos 0) q) u in n .0 (ltZ-yes (h .0)) (ltZ-yes (h .1)))
-    (λ u. let h = and-yes (ltZ p (pos 0)) (ltZ q (pos 0)) u in n .1 (ltZ-yes (h .0)) (ltZ-yes (h .1)))
-    (or-yes (ltZ (pos 0) p && ltZ (pos 0) q) (ltZ p (pos 0) && ltZ q (pos 0)) t))
+    (λ u. let h = and-yes (ltZ p (pos 0)) (ltZ q (pos 0)) u in n .1 (ltZ-yes (h .0)) (ltZ-yes (h .1))))
 
 pub flip : {p q : ℤ} → Neither p q → Neither q p
 flip n = (λ h k. n .0 k h, λ h k. n .1 k h)
@@ -127,13 +126,13 @@ passed-make a b c d s =
 pub passed-swaps : {a b c d : Point} → Passed a b c d → Passed c d a b
 passed-swaps s = record { xs = (s .xs .1, s .xs .0); ys = (s .ys .1, s .ys .0); of-ab = s .of-cd; of-cd = s .of-ab }
 
--- c of a segment, as a term
-abbrev pub cE : Expr → Expr → Expr → Expr → Expr → Expr → Expr
-cE ax ay bx by px py = (bx :- ax) :* (py :- ay) :- (by :- ay) :* (px :- ax)
+-- c of the segment a to b, as a term
+abbrev pub cOf : Expr → Expr → Expr → Expr → Expr → Expr → Expr
+cOf ax ay bx by px py = cE ax ay (bx :- ax) (by :- ay) px py
 
 -- the other way along a segment, c is negated
 pub c-turns : (a b p : Point) → cAt b (step b a) p ≡ negℤ (cAt a (step a b) p)
-c-turns a b p = ring 6 (λ ax ay bx by px py. cE bx by ax ay px py := :neg (cE ax ay bx by px py)) tt (a .x) (a .y) (b .x) (b .y) (p .x) (p .y)
+c-turns a b p = ring 6 (λ ax ay bx by px py. cOf bx by ax ay px py := :neg (cOf ax ay bx by px py)) tt (a .x) (a .y) (b .x) (b .y) (p .x) (p .y)
 
 -- nor does the order of a segment's ends
 pub passed-turns : {a b c d : Point} → Passed a b c d → Passed b a c d

@@ -5,12 +5,11 @@ use mathlib.Core.Bool.{Bool, true, false, cond}
 use mathlib.Core.List.{List, [], _∷_, _++_}
 use mathlib.Core.Logic.{_↔_, inl, inr}
 use mathlib.Core.Option.{Option, none, some}
-use Prim.Native.Nat.{ℕ, zero, suc, _+_, _-_, _≤_, _<_}
+use Prim.Native.Nat.{ℕ, zero, suc, _+_, _≤_, _<_}
 use native.Mathlib.Decide.{ℕ-discrete}
 use native.Mathlib.Omega.{arith}
 use lib.Dec.{T, T-not}
 use lib.IntN.{ℤ, pos, negℤ}
-use lib.Signed.{leZ, leZ-yes}
 use mir.Facts.{and-yes, yes-and}
 use Rattle.whole.specs.Laws.{cond-ind}
 use Rattle.whole.specs.Order.{≤ℤ-trans, T-true, T-false, yes-T, no-T}
@@ -24,44 +23,40 @@ use Rattle.rules.specs.Plain.{everyOf, plainNear, plainAgree}
 use Rattle.rules.specs.Reply.{YES, NO, Check, firstRefusal, orRefused}
 use Rattle.rules.specs.Rows.{lengthChecks, distanceCheck}
 use Rattle.rules.specs.Walk.{Walked, ended, over, spent, refused, fresh}
-use Rattle.rules.specs.Questions.{Nothing, root, nearWalk, Asked, allNear, notNear, unasked, faulted, onNear, askAll, onAllNear, agreeWalk, agreed, agreeReply}
-use Rattle.rules.specs.Build.{holdsNumber, soundFrom, sound}
+use Rattle.rules.specs.Questions.{Nothing, nearWalk, Asked, allNear, notNear, unasked, faulted, onNear, askAll, onAllNear, agreeWalk, agreed, agreeReply}
+use Rattle.rules.specs.Build.{sound}
+use Rattle.visits.specs.Truthful.{WalkTruthful, Truthful}
+use Rattle.visits.proofs.Tests.{never}
 use Rattle.visits.proofs.Counts.{everyOf-read, everyOf-make}
-use Rattle.visits.proofs.Nodes.{good-read, sound-read}
-use Rattle.visits.specs.Truthful.{Truthful}
-use Rattle.near_truth.specs.Truthful.{WalkTruthful}
+use Rattle.visits.proofs.Checks.{some-segment, rest-none}
+use Rattle.visits.proofs.Replies.{Sure, sure-or-refused}
+use Rattle.visits.proofs.Held.{Within, number-held, held-number}
+use Rattle.visits.proofs.Sound.{root-tree, row-read, row-holds}
 use Rattle.near_truth.specs.Reach.{LineReach}
 use Rattle.near_truth.specs.First.{First, FirstApart}
-use Rattle.near_truth.proofs.Near.{holds-read, near-tells}
+use Rattle.near_truth.proofs.Near.{near-tells}
 use Rattle.near_truth.proofs.NearReply.{near-some}
-use Rattle.near_truth.proofs.Replies.{never, clear, not-few, Sure, sure-or-refused}
 
 -- ---------------- a sound table's points are on the sheet
 
-up-to : (a b c : ℤ) → T (leZ a b) → T (leZ b c) → T (leZ a c)
-up-to a b c h k = ≤ℤ-trans {a = a} {b = b} {c = c} (leZ-yes h) (leZ-yes k) .le
-
 -- a number between two of the sheet is one of the sheet
-in-between : (lo hi v : ℤ) → T (inSheet lo) → T (inSheet hi) → T (holdsNumber lo hi v) → T (inSheet v)
+in-between : (lo hi v : ℤ) → T (inSheet lo) → T (inSheet hi) → Within lo hi v → T (inSheet v)
 unfolding between
 in-between lo hi v l h k =
-    let i = and-yes (leZ lo v) (leZ v hi) k in
-    let low = and-yes (leZ (negℤ (pos limit)) lo) (leZ lo (pos limit)) l in
-    let high = and-yes (leZ (negℤ (pos limit)) hi) (leZ hi (pos limit)) h in
-    yes-and (leZ (negℤ (pos limit)) v) (leZ v (pos limit)) (up-to (negℤ (pos limit)) lo v (low .0) (i .0)) (up-to v hi (pos limit) (i .1) (high .1))
+    let low = number-held (negℤ (pos limit)) (pos limit) lo l in
+    let high = number-held (negℤ (pos limit)) (pos limit) hi h in
+    held-number (≤ℤ-trans (low .0) (k .0), ≤ℤ-trans (k .1) (high .1))
 
 -- the root's box is on the sheet, and holds each point
 pub sound-on-sheet : (ps t : List ℤ) → T (sound ps t) → 1 ≤ segmentsOf ps → (j : ℕ) → j < pointsOf ps → T (onSheet (point ps j))
-unfolding sound
 sound-on-sheet ps t held one j below =
-    let more : segmentsOf ps ≡ suc (segmentsOf ps - 1) = omega arith in
-    let node = sound-read _ ps t (root ps) one (subst (λ (f : ℕ). T (soundFrom f ps t (root ps))) more held) in
+    let g = root-tree ps t held one in
     let r = rowAt t 0 in
-    let row = good-read ps r 0 (segmentsOf ps) (node .row-good) in
-    let k = holds-read r ps 0 (segmentsOf ps) (point ps j) (node .holds j (omega arith) (omega arith)) in
+    let row = row-read g in
+    let k = row-holds g j (omega arith) (omega arith) in
     yes-and (inSheet (point ps j .x)) (inSheet (point ps j .y))
-    (in-between (r .xmin) (r .xmax) (point ps j .x) (row .xmin-in) (row .xmax-in) (k .1))
-    (in-between (r .ymin) (r .ymax) (point ps j .y) (row .ymin-in) (row .ymax-in) (k .2))
+    (in-between (r .xmin) (r .xmax) (point ps j .x) (row .xmin-in) (row .xmax-in) (k .x))
+    (in-between (r .ymin) (r .ymax) (point ps j .y) (row .ymin-in) (row .ymax-in) (k .y))
 
 -- ---------------- the points of one line against the other
 
@@ -198,9 +193,9 @@ module _ (ps t qs t′ : List ℤ) (D : ℤ) (a : ℕ) (held : T (sound ps t)) (
   agree-tells : firstRefusal checks ≡ none → (y : Tally) → AgreeTells ps qs D (agreeWalk ps t qs t′ D y)
   unfolding agreeWalk
   agree-tells e y =
-      let c = clear checks e in
-      let one = not-few ps (c .1 .0) in
-      let one′ = not-few qs (c .1 .1 .1 .1 .1 .0) in
+      let rest = lengthChecks LineB qs t′ ++ distanceCheck D ∷ [] in
+      let one = some-segment LineA ps t rest e in
+      let one′ = some-segment LineB qs t′ (distanceCheck D ∷ []) (rest-none LineA ps t rest e) in
       A-then-B ps qs D (askAll LineA ps LineB qs t′ D 0 (pointsOf ps) y) (λ v. askAll LineB qs LineA ps t D 0 (pointsOf qs) v)
       (ask-tells LineA ps LineB qs t′ D held′ one′ 0 (pointsOf ps) y (λ j _ b. sound-on-sheet ps t held one j (omega arith)))
       (λ v. ask-tells LineB qs LineA ps t D held one 0 (pointsOf qs) v (λ j _ b. sound-on-sheet qs t′ held′ one′ j (omega arith)))

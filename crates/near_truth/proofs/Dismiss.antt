@@ -5,8 +5,8 @@ use mathlib.Core.Bool.{false, cond}
 use mathlib.Core.List.{[], _∷_}
 use lib.Dec.{T}
 use lib.IntN.{ℤ, pos, _+ℤ_, _-ℤ_, _*ℤ_}
-use lib.Signed.{_≤ℤ_, _<ℤ_, ltZ, leZ, leZ-yes, ltZ-yes}
-use mir.Facts.{and-yes}
+use lib.Signed.{_≤ℤ_, _<ℤ_, ltZ, ltZ-yes}
+use mir.Facts.{and-yes, yes-and}
 use Rattle.whole.specs.Laws.{cond-ind}
 use Rattle.whole.specs.Poly.{con, _:+_, _:*_, _:-_}
 use Rattle.whole.specs.Check.{_:≤_, _:<_, _:=_, hyp, num, sqr, _⊞_, _⊠_, ring, prove, refute}
@@ -17,8 +17,10 @@ use Rattle.rules.specs.Plane.{size², cAt, tAt}
 use Rattle.rules.specs.Plain.{within}
 use Rattle.rules.specs.Questions.{shortfall, farFrom}
 use Rattle.rules.specs.Build.{holdsNumber}
+use Rattle.visits.proofs.Terms.{cE, tE, sizeE}
+use Rattle.visits.proofs.Held.{number-held, held-number, Held}
 use Rattle.near_truth.specs.Reach.{Reach, stripHolds}
-use Rattle.near_truth.proofs.Terms.{cE, tE, sizeE, awayE}
+use Rattle.near_truth.proofs.Terms.{awayE}
 use Rattle.near_truth.proofs.Within.{away², reach-of-within}
 
 -- (p + q)·v − (p·a + q·b)
@@ -65,12 +67,12 @@ shortfall-least : (p q lo hi v a b : ℤ) → pos 0 ≤ℤ p → pos 0 ≤ℤ q 
     → Least p q v a b (shortfall lo hi v)
 unfolding shortfall
 shortfall-least p q lo hi v a b p0 q0 ha hb =
-    let la = and-yes (leZ lo a) (leZ a hi) ha in
-    let lb = and-yes (leZ lo b) (leZ b hi) hb in
+    let la = number-held lo hi a ha in
+    let lb = number-held lo hi b hb in
     cond-ind (ltZ v lo) (lo -ℤ v) (cond (ltZ hi v) (v -ℤ hi) (pos 0)) (Least p q v a b)
-    (λ h. below-least p q lo v a b p0 q0 (leZ-yes (la .0)) (leZ-yes (lb .0)) (ltZ-yes h))
+    (λ h. below-least p q lo v a b p0 q0 (la .0) (lb .0) (ltZ-yes h))
     (λ _. cond-ind (ltZ hi v) (v -ℤ hi) (pos 0) (Least p q v a b)
-    (λ h. above-least p q hi v a b p0 q0 (leZ-yes (la .1)) (leZ-yes (lb .1)) (ltZ-yes h)) (λ _. inside-least p q v a b))
+    (λ h. above-least p q hi v a b p0 q0 (la .1) (lb .1) (ltZ-yes h)) (λ _. inside-least p q v a b))
 
 -- ---------------- c and t of the way from the mean of a and b to z are |u| times as long as the way: Lagrange
 lagrange : (p q sx sy dx dy zx zy ax ay bx by : ℤ) →
@@ -118,6 +120,10 @@ module _ (r : Row) (s u z a b : Point) (D : ℤ) where
       (lagrange (h .p) (h .q) (s .x) (s .y) (u .x) (u .y) (z .x) (z .y) (a .x) (a .y) (b .x) (b .y))
       (nn-add (nn-sq (u .x)) (nn-sq (u .y))) (h .at-most) (h .some-weight) (ltZ-yes far)
 
-  -- and so the exact test of that segment says no
-  pub far-not-within : T (stripHolds r s u a) → T (stripHolds r s u b) → T (farFrom r s u z D) → within z a b D ≡ false
-  far-not-within ha hb far = no-T (within z a b D) (λ t. far-reaches-none ha hb far (reach-of-within z a b D t))
+  -- and so the exact test of a segment that the row holds says no
+  pub far-not-within : Held r s u a → Held r s u b → T (farFrom r s u z D) → within z a b D ≡ false
+  far-not-within ha hb far = no-T (within z a b D) (λ t. far-reaches-none (in-strip ha) (in-strip hb) far (reach-of-within z a b D t))
+    where
+      in-strip : {p : Point} → Held r s u p → T (stripHolds r s u p)
+      in-strip {p} h =
+          yes-and (holdsNumber (r .cmin) (r .cmax) (cAt s u p)) (holdsNumber (r .tmin) (r .tmax) (tAt s u p)) (held-number (h .c)) (held-number (h .t))

@@ -3,6 +3,5 @@ pub mod Terms
 pub mod Within
 pub mod Dismiss
 pub mod Near
-pub mod Replies
 pub mod NearReply
 pub mod Agree

@@ -7,10 +7,10 @@ use mathlib.Core.Logic.{_↔_}
 use mathlib.Core.Option.{none}
 use Prim.Native.Nat.{ℕ}
 use native.Mathlib.Omega.{arith}
-use lib.Dec.{T, T-not}
+use lib.Dec.{T}
 use lib.IntN.{ℤ, pos}
 use lib.Signed.{_≤ℤ_}
-use Rattle.whole.specs.Order.{T-true, T-false, yes-T, no-T}
+use Rattle.whole.specs.Order.{T-true, yes-T}
 use Rattle.rules.specs.declared.Line.the-variants.{LineA}
 use Rattle.rules.specs.declared.Point.{Point}
 use Rattle.rules.specs.Sheet.{segmentsOf}
@@ -20,12 +20,14 @@ use Rattle.rules.specs.Rows.{lengthChecks, distanceCheck, askedCheck}
 use Rattle.rules.specs.Walk.{fresh}
 use Rattle.rules.specs.Questions.{nearWalk, nearReply}
 use Rattle.rules.specs.Build.{sound}
-use Rattle.visits.proofs.Counts.{someOf-make, someOf-read}
-use Rattle.near_truth.specs.Reach.{LineReach}
 use Rattle.visits.specs.Truthful.{Truthful}
+use Rattle.visits.proofs.Tests.{no-exactly}
+use Rattle.visits.proofs.Counts.{someOf-make, someOf-read}
+use Rattle.visits.proofs.Checks.{some-segment}
+use Rattle.visits.proofs.Replies.{reply-truthful, Sure, sure-or-refused}
+use Rattle.near_truth.specs.Reach.{LineReach}
 use Rattle.near_truth.proofs.Within.{reach-of-within, within-of-reach, reach-grows}
 use Rattle.near_truth.proofs.Near.{near-tells}
-use Rattle.near_truth.proofs.Replies.{clear, not-few, Sure, sure-or-refused, truthful-walk}
 
 module _ (ps t : List ℤ) (z : Point) (D : ℤ) (a : ℕ) (held : T (sound ps t)) where
   -- after its checks NEAR replies the plain answer or UNDECIDED, under every allowance, and refuses nothing
@@ -33,9 +35,8 @@ module _ (ps t : List ℤ) (z : Point) (D : ℤ) (a : ℕ) (held : T (sound ps t
       → Truthful (plainNear ps z D) (nearReply ps t z D a)
   unfolding nearReply
   near-true e =
-      let c = clear (lengthChecks LineA ps t ++ distanceCheck D ∷ askedCheck z ∷ []) e in
-      rw e (truthful-walk (plainNear ps z D) a (nearWalk LineA ps t z D (fresh a))
-      (near-tells LineA ps t z D held (not-few ps (c .1 .0)) (fresh a)))
+      rw e (reply-truthful (plainNear ps z D) a (nearWalk LineA ps t z D (fresh a))
+      (near-tells LineA ps t z D held (some-segment LineA ps t (distanceCheck D ∷ askedCheck z ∷ []) e) (fresh a)))
 
   near-sure : Sure (plainNear ps z D) (nearReply ps t z D a)
   unfolding nearReply
@@ -69,7 +70,7 @@ module _ (ps : List ℤ) (z : Point) (D : ℤ) where
 
   -- and no exactly when no point of the line is
   pub near-none : plainNear ps z D ≡ false ↔ ¬ LineReach ps z D
-  near-none = (λ e r. T-not (plainNear ps z D) (T-false e) (T-true (near-some .1 r)), λ f. no-T _ (λ t. f (near-some .0 (yes-T _ t))))
+  near-none = no-exactly (plainNear ps z D) near-some
 
 -- what is near at D is near at any greater distance
 pub near-grows : (ps : List ℤ) (z : Point) (D E : ℤ) → pos 0 ≤ℤ D → D ≤ℤ E → plainNear ps z D ≡ true → plainNear ps z E ≡ true

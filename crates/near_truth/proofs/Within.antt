@@ -14,8 +14,9 @@ use Rattle.whole.specs.Order.{≤ℤ-trans, <ℤ-weaken, leZ-no}
 use Rattle.rules.specs.declared.Point.{Point}
 use Rattle.rules.specs.Plane.{step, size², cAt, tAt}
 use Rattle.rules.specs.Plain.{within}
+use Rattle.visits.proofs.Terms.{cE, tE, sizeE}
 use Rattle.near_truth.specs.Reach.{times, weighed, Reach}
-use Rattle.near_truth.proofs.Terms.{cE, tE, sizeE, awayE, at-mostE}
+use Rattle.near_truth.proofs.Terms.{awayE, at-mostE}
 
 abbrev at : ℤ → ℤ → Point
 at x y = record { x = x; y = y }

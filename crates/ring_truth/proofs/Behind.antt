@@ -9,7 +9,7 @@ use mathlib.Core.Logic.{⊎-elim}
 use lib.IntN.{ℤ, pos, _*ℤ_}
 use lib.Signed.{leZ, ltZ, _≤ℤ_, _<ℤ_}
 use Rattle.whole.specs.Poly.{con, _:+_, _:*_, _:-_}
-use Rattle.whole.specs.Check.{_:≤_, _:<_, _:=_, hyp, num, mul, _⊞_, _⊠_, prove, refute}
+use Rattle.whole.specs.Check.{_:≤_, _:<_, hyp, num, mul, _⊞_, _⊠_, prove, refute}
 use Rattle.whole.specs.Order.{≤ℤ-or-<ℤ, lt-true, lt-false, le-true, le-false, le-not, lt-yes, lt-no, no-T}
 use Rattle.rules.specs.declared.Point.{Point}
 use Rattle.rules.specs.Plane.{tAt}

@@ -1,17 +1,8 @@
--- The paper's c, t and |u|², and the facts of this crate that are about numbers, as the checker's expressions and statements.
+-- The facts of this crate that are about numbers, as statements of the checker.
 use lib.IntN.{pos}
 use Rattle.whole.specs.Poly.{Expr, con, _:+_, _:*_, _:-_}
 use Rattle.whole.specs.Check.{Stmt, _:≤_, _:<_, _:=_}
-
--- c and t of z, from s in the direction u
-abbrev pub cE : Expr → Expr → Expr → Expr → Expr → Expr → Expr
-cE sx sy ux uy zx zy = ux :* (zy :- sy) :- uy :* (zx :- sx)
-
-abbrev pub tE : Expr → Expr → Expr → Expr → Expr → Expr → Expr
-tE sx sy ux uy zx zy = ux :* (zx :- sx) :+ uy :* (zy :- sy)
-
-abbrev pub sizeE : Expr → Expr → Expr
-sizeE ux uy = ux :* ux :+ uy :* uy
+use Rattle.visits.proofs.Terms.{tE}
 
 -- z − a and b − z do not disagree in sign
 abbrev pub wayE : Expr → Expr → Expr → Stmt

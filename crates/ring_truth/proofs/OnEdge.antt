@@ -14,8 +14,9 @@ use Rattle.whole.specs.Order.{≤ℤ-or-<ℤ, ≤ℤ-trans, ≤ℤ-antisym, ≤
 use Rattle.rules.specs.declared.Point.{Point}
 use Rattle.rules.specs.Plane.{eqZ, minZ, maxZ, step, cAt, tAt, size²}
 use Rattle.rules.specs.Plain.{rangeHolds, onSegment}
+use Rattle.visits.proofs.Terms.{cE, tE, sizeE}
 use Rattle.ring_truth.specs.OnEdge.{Lies}
-use Rattle.ring_truth.proofs.Forms.{cE, tE, sizeE, wayE, meanE}
+use Rattle.ring_truth.proofs.Forms.{wayE, meanE}
 
 -- ---------------- v lies between a and b exactly when v − a and b − v do not disagree in sign
 

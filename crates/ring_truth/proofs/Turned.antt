@@ -16,7 +16,7 @@ use Rattle.rules.specs.Plain.{joined, _⊕_, someOf, oddOf, onSegment, crosses,
 use Rattle.rules.specs.Reply.{INSIDE, OUTSIDE, ON, UNDECIDED}
 use Rattle.rules.specs.Questions.{inReply}
 use Rattle.rules.specs.Build.{sound}
-use Rattle.visits.proofs.Counts.{⊕-comm, someOf-append, oddOf-append}
+use Rattle.visits.proofs.Counts.{⊕-comm, joined-moved, someOf-append, oddOf-append}
 use Rattle.ring_truth.specs.Truth.{InAsked, plainSide}
 use Rattle.ring_truth.specs.Turned.{Ring, turned}
 use Rattle.ring_truth.proofs.Asked.{asked-ring}
@@ -30,23 +30,6 @@ unfolding turned
 square-turned = refl
 
 -- ---------------- what is joined over two parts, the last part first
-
-module _ (join : Bool → Bool → Bool) (none : Bool) where
-  -- two properties that are the same on rows of k numbers, from i and from j on
-  joined-moved : (p q : ℕ → Bool) (i j k : ℕ) → ((m : ℕ) → m < k → p (i + m) ≡ q (j + m)) → joined join none p i k ≡ joined join none q j k
-  unfolding joined
-  joined-moved p q i j zero h = refl
-  joined-moved p q i j (suc k) h =
-      λ d. join (first d) (joined-moved p q (suc i) (suc j) k (λ m l. ap p (along i m) ∙ h (suc m) (omega arith) ∙ ap q (sym (along j m))) d)
-    where
-      along : (i m : ℕ) → suc i + m ≡ i + suc m
-      along i m = omega arith
-
-      here : (i : ℕ) → i ≡ i + 0
-      here i = omega arith
-
-      first : p i ≡ q j
-      first = ap p (here i) ∙ h 0 (omega arith) ∙ ap q (sym (here j))
 
 module _ (join : Bool → Bool → Bool) (none : Bool) (comm : (a b : Bool) → join a b ≡ join b a)
     (append : (p : ℕ → Bool) (i j k : ℕ) → joined join none p i (j + k) ≡ join (joined join none p i j) (joined join none p (i + j) k)) where

@@ -1,11 +1,11 @@
--- Laws of what is joined over a row of numbers: some, every, an odd number of them. A run's segments are those of its halves.
+-- Laws of what is joined over a row of numbers: some, every, an odd number of them.
 use mathlib.Core.Path.{_≡_, refl, sym, _∙_, ap, subst}
-use mathlib.Core.Bool.{Bool, true, false, _&&_, _||_, or-assoc, and-assoc, or-true}
+use mathlib.Core.Bool.{Bool, true, false, _&&_, _||_, or-assoc, and-assoc, or-true, or-false, false≢true}
 use Prim.Native.Nat.{ℕ, zero, suc, _+_, _≤_, _<_}
 use native.Mathlib.Decide.{ℕ-discrete}
 use native.Mathlib.Omega.{arith}
 use lib.Dec.{T}
-use mir.Facts.{and-yes}
+use mir.Facts.{and-yes, yes-and}
 use Rattle.rules.specs.Plain.{joined, _⊕_, someOf, everyOf, oddOf}
 
 -- ---------------- the operations
@@ -28,7 +28,7 @@ pub ⊕-false : (a : Bool) → a ⊕ false ≡ a
 -- ---------------- any associative operation with a unit on the left
 module _ (join : Bool → Bool → Bool) (none : Bool) (unit : (b : Bool) → join none b ≡ b)
     (assoc : (a b c : Bool) → join (join a b) c ≡ join a (join b c)) (p : ℕ → Bool) where
-  joined-append : (i j k : ℕ) → joined join none p i (j + k) ≡ join (joined join none p i j) (joined join none p (i + j) k)
+  pub joined-append : (i j k : ℕ) → joined join none p i (j + k) ≡ join (joined join none p i j) (joined join none p (i + j) k)
   unfolding joined
   joined-append i zero k = (λ d. joined join none p (start d) (rest d)) ∙ sym (unit (joined join none p (i + 0) k))
     where
@@ -48,14 +48,35 @@ module _ (join : Bool → Bool → Bool) (none : Bool) (unit : (b : Bool) → jo
       along : suc i + j ≡ i + suc j
       along = omega arith
 
--- two properties that are the same on the numbers i to i + k - 1 are joined to the same
+-- two properties that are the same on rows of k numbers, from i and from j on, are joined to the same
+pub joined-moved : (join : Bool → Bool → Bool) (none : Bool) (p q : ℕ → Bool) (i j k : ℕ)
+    → ((m : ℕ) → m < k → p (i + m) ≡ q (j + m)) → joined join none p i k ≡ joined join none q j k
+unfolding joined
+joined-moved join none p q i j zero h = refl
+joined-moved join none p q i j (suc k) h = λ d.
+    join (first d) (joined-moved join none p q (suc i) (suc j) k (λ m l. ap p (along i m) ∙ h (suc m) (omega arith) ∙ ap q (sym (along j m))) d)
+  where
+    along : (i m : ℕ) → suc i + m ≡ i + suc m
+    along i m = omega arith
+
+    here : (i : ℕ) → i ≡ i + 0
+    here i = omega arith
+
+    first : p i ≡ q j
+    first = ap p (here i) ∙ h 0 (omega arith) ∙ ap q (sym (here j))
+
+-- and so two that are the same on the numbers i to i + k - 1
 pub joined-same : (join : Bool → Bool → Bool) (none : Bool) (p q : ℕ → Bool) (i k : ℕ)
     → ((j : ℕ) → i ≤ j → j < i + k → p j ≡ q j) → joined join none p i k ≡ joined join none q i k
-unfolding joined
-joined-same join none p q i zero h = refl
-joined-same join none p q i (suc k) h =
-    λ d. join (h i (omega arith) (omega arith) d) (joined-same join none p q (suc i) k (λ j l m. h j (omega arith) (omega arith)) d)
+joined-same join none p q i k h = joined-moved join none p q i i k (λ m l. h (i + m) (omega arith) (omega arith))
 
+-- one number, where the operation has its unit on the right
+pub joined-one : (join : Bool → Bool → Bool) (none : Bool) → ((b : Bool) → join b none ≡ b)
+    → (p : ℕ → Bool) (i : ℕ) → joined join none p i 1 ≡ p i
+unfolding joined
+joined-one join none unit p i = unit (p i)
+
+-- ---------------- some, every, an odd number
 pub someOf-append : (p : ℕ → Bool) (i j k : ℕ) → someOf p i (j + k) ≡ someOf p i j || someOf p (i + j) k
 someOf-append = joined-append _||_ false (λ b. refl) or-assoc
 
@@ -65,18 +86,11 @@ everyOf-append = joined-append _&&_ true (λ b. refl) and-assoc
 pub oddOf-append : (p : ℕ → Bool) (i j k : ℕ) → oddOf p i (j + k) ≡ oddOf p i j ⊕ oddOf p (i + j) k
 oddOf-append = joined-append _⊕_ false (λ b. refl) ⊕-assoc
 
--- ---------------- one number
 pub someOf-one : (p : ℕ → Bool) (i : ℕ) → someOf p i 1 ≡ p i
-unfolding joined
-someOf-one p i = go (p i)
-  where
-    go : (b : Bool) → b || false ≡ b
-    go true = refl
-    go false = refl
+someOf-one = joined-one _||_ false or-false
 
 pub oddOf-one : (p : ℕ → Bool) (i : ℕ) → oddOf p i 1 ≡ p i
-unfolding joined
-oddOf-one p i = ⊕-false (p i)
+oddOf-one = joined-one _⊕_ false ⊕-false
 
 -- ---------------- some
 pub someOf-none : (p : ℕ → Bool) (i k : ℕ) → ((j : ℕ) → i ≤ j → j < i + k → p j ≡ false) → someOf p i k ≡ false
@@ -98,7 +112,7 @@ Somewhere p i k = (j : ℕ) × (i ≤ j) × (j < i + k) × (p j ≡ true)
 
 pub someOf-read : (p : ℕ → Bool) (i k : ℕ) → someOf p i k ≡ true → Somewhere p i k
 unfolding joined
-someOf-read p i zero e = absurd (let z : _≡_ {A = ℕ} 0 1 = cc in omega arith)
+someOf-read p i zero e = absurd (false≢true e)
 someOf-read p i (suc k) e = go (p i) refl e (someOf-read p (suc i) k)
   where
     go : (b : Bool) → p i ≡ b → b || someOf p (suc i) k ≡ true → (someOf p (suc i) k ≡ true → Somewhere p (suc i) k) → Somewhere p i (suc k)
@@ -117,8 +131,4 @@ pub everyOf-make : (p : ℕ → Bool) (i k : ℕ) → ((j : ℕ) → i ≤ j →
 unfolding joined
 everyOf-make p i zero h = tt
 everyOf-make p i (suc k) h =
-    both (p i) (everyOf p (suc i) k) (h i (omega arith) (omega arith)) (everyOf-make p (suc i) k (λ j l m. h j (omega arith) (omega arith)))
-  where
-    both : (a b : Bool) → T a → T b → T (a && b)
-    both true b s t = t
-    both false b s t = s
+    yes-and (p i) (everyOf p (suc i) k) (h i (omega arith) (omega arith)) (everyOf-make p (suc i) k (λ j l m. h j (omega arith) (omega arith)))

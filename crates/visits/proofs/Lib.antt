@@ -1,4 +1,12 @@
--- Theorems about the written walk.
+-- Theorems about the written walk, and what all questions share: rows, sound tables, the checks before a walk, replies.
+pub mod Tests
+pub mod Terms
+pub mod Affine
 pub mod Counts
+pub mod Runs
+pub mod Checks
 pub mod Told
+pub mod Replies
 pub mod Nodes
+pub mod Held
+pub mod Sound

@@ -1,28 +1,29 @@
 -- What a good row tells, where a node's rows stand in the table, and what a sound table tells at each node. The row numbers
 -- of both children are kept in one place: `Fits`. So no child's row reaches 2n-1, whatever numbers the table holds.
-use mathlib.Core.Path.{_≡_, refl, sym, _∙_, ap, subst}
-use mathlib.Core.Bool.{Bool, true, false, not, cond, _&&_, _||_}
+use mathlib.Core.Path.{_≡_}
+use mathlib.Core.Bool.{true, false, not, cond, _&&_}
 use mathlib.Core.List.{List}
-use Prim.Native.Nat.{ℕ, zero, suc, _+_, _*_, _-_, _≤_, _<_}
+use mathlib.Core.Logic.{⊎-elim}
+use Prim.Native.Nat.{ℕ, suc, _+_, _*_, _≤_, _<_}
 use native.Mathlib.Omega.{arith}
-use borrow.Author.Tests.{le-leb, lt-leb, leb-true, leb-false}
-use lib.Dec.{T, leb, leb→le}
+use borrow.Author.Tests.{le-leb, lt-leb}
+use lib.Dec.{T, T-not, nleb→lt}
 use lib.IntN.{ℤ, pos, negsuc, natAbs}
 use lib.Signed.{leZ, ltZ, _≤ℤ_, _<ℤ_, leZ-yes, ltZ-yes}
-use mir.Facts.{and-yes}
+use mir.Facts.{and-yes, and-no}
 use Rattle.whole.specs.Laws.{zarith}
-use Rattle.whole.specs.Order.{eqZ-yes}
+use Rattle.whole.specs.Order.{eqZ-yes, no-T}
 use Rattle.rules.specs.declared.Line.{Line}
 use Rattle.rules.specs.declared.Node.{Node}
-use Rattle.rules.specs.declared.Point.{Point}
 use Rattle.rules.specs.declared.Row.{Row}
 use Rattle.rules.specs.Plane.{eqZ, samePoint}
 use Rattle.rules.specs.Sheet.{point, segmentsOf, onSheet, inSheet}
-use Rattle.rules.specs.Tree.{rowAt, rowCount, isLeaf, noSplit, leftRow, rightRow}
+use Rattle.rules.specs.Tree.{rowAt, rowCount, noSplit}
 use Rattle.rules.specs.Rows.{rangeGood, splitGood, stripGood, sideGood, boxGood, endsGood, leafGood, good}
 use Rattle.rules.specs.Walk.{Visit}
 use Rattle.rules.specs.Questions.{root, leftOf, rightOf, leaf, size, splitIn, openNode}
 use Rattle.rules.specs.Build.{holdsPoint, holdsRun, soundFrom}
+use Rattle.visits.proofs.Tests.{four-yes}
 use Rattle.visits.proofs.Counts.{everyOf-read}
 
 -- ---------------- a good row
@@ -59,9 +60,7 @@ good-read ps r first last h =
     let s = and-yes (rangeGood r first last && splitGood r first last) (stripGood r) (b .0) in
     let g = and-yes (rangeGood r first last) (splitGood r first last) (s .0) in
     let f = and-yes (eqZ (r .first) (pos first)) (eqZ (r .last) (pos last)) (g .0) in
-    let t3 = and-yes (leZ (r .cmin) (pos 0) && leZ (pos 0) (r .cmax) && leZ (r .tmin) (pos 0)) (leZ (pos 0) (r .tmax)) (s .1) in
-    let t2 = and-yes (leZ (r .cmin) (pos 0) && leZ (pos 0) (r .cmax)) (leZ (r .tmin) (pos 0)) (t3 .0) in
-    let t1 = and-yes (leZ (r .cmin) (pos 0)) (leZ (pos 0) (r .cmax)) (t2 .0) in
+    let c = four-yes (leZ (r .cmin) (pos 0)) (leZ (pos 0) (r .cmax)) (leZ (r .tmin) (pos 0)) (leZ (pos 0) (r .tmax)) (s .1) in
     let xy = and-yes (sideGood (r .xmin) (r .xmax)) (sideGood (r .ymin) (r .ymax)) (b .1) in
     let x2 = and-yes (leZ (r .xmin) (r .xmax) && inSheet (r .xmin)) (inSheet (r .xmax)) (xy .0) in
     let x1 = and-yes (leZ (r .xmin) (r .xmax)) (inSheet (r .xmin)) (x2 .0) in
@@ -73,10 +72,10 @@ good-read ps r first last h =
       range-last = eqZ-yes {a = r .last} {b = pos last} (f .1);
       leaf-split = λ l. eqZ-yes {a = r .split} {b = noSplit} (rw (le-leb last (first + 1) l) at (g .1));
       split-between = λ l. let k = and-yes (ltZ (pos first) (r .split)) (ltZ (r .split) (pos last)) (rw (lt-leb last (first + 1) l) at (g .1)) in between-read first last (r .split) (ltZ-yes (k .0)) (ltZ-yes (k .1));
-      cmin-low = leZ-yes (t1 .0);
-      cmax-high = leZ-yes (t1 .1);
-      tmin-low = leZ-yes (t2 .1);
-      tmax-high = leZ-yes (t3 .1);
+      cmin-low = leZ-yes (c .0);
+      cmax-high = leZ-yes (c .1);
+      tmin-low = leZ-yes (c .2);
+      tmax-high = leZ-yes (c .3);
       x-side = leZ-yes (x1 .0);
       y-side = leZ-yes (y1 .0);
       xmin-in = x1 .1;
@@ -85,12 +84,8 @@ good-read ps r first last h =
       ymax-in = y2 .1;
       start-on = o .0;
       end-on = o .1;
-      ends-differ = λ l. differ (samePoint (point ps first) (point ps last)) (rw (le-leb last (first + 1) l) at (q .1));
+      ends-differ = λ l. let same = samePoint (point ps first) (point ps last) in no-T same (T-not same (rw (le-leb last (first + 1) l) at (q .1)));
     }
-  where
-    differ : (b : Bool) → T (not (true && b)) → b ≡ false
-    differ true t = absurd t
-    differ false t = refl
 
 -- ---------------- where the rows of a node stand: with k segments it has 2k-1 rows, all below the table's
 pub record Fits (rows : ℕ) (n : Node) : Type 0 where
@@ -115,6 +110,11 @@ pub open-fits : {S N : Type 0} (l : Line) (ps : List ℤ) (n : Node) (s : ℕ) (
     → Fits (rowCount (segmentsOf ps)) n → n .first < s → s < n .last → openNode l ps n s go ≡ go (leftOf n s) (rightOf n s)
 open-fits l ps n s go f low high =
     simp (lt-leb (rowCount (segmentsOf ps)) (leftOf n s .row) (fits-row _ _ (fits-left _ n f s low high)), lt-leb (rowCount (segmentsOf ps)) (rightOf n s .row) (fits-row _ _ (fits-right _ n f s low high)))
+
+-- of a pair that is not two leaves, a node with no fewer segments than the other is no leaf
+pub larger-opens : (a b : Node) → T (not (leaf a && leaf b)) → size b ≤ size a → a .first + 1 < a .last
+larger-opens a b h k =
+    ⊎-elim (nleb→lt (a .last) (a .first + 1)) (λ l. let m = nleb→lt (b .last) (b .first + 1) l in omega arith) (and-no (leaf a) (leaf b) h)
 
 -- ---------------- a sound table, at a node
 pub record SoundNode (f : ℕ) (ps t : List ℤ) (n : Node) : Type 0 where

@@ -1,2 +1,3 @@
 -- What the theorems about walks are said with.
+pub mod Tells
 pub mod Truthful

@@ -1,0 +1,76 @@
+-- `put_bytes` copies: before each turn the first i bytes are written, and all else is as it was.
+use mathlib.Core.Path.{_≡_, refl, sym, _∙_, ap}
+use Prim.Native.Nat.{_+_, _-_, _≤_}
+use native.Mathlib.Numerals.{add-one}
+use native.Mathlib.Omega.{arith}
+use lib.ListN.{length, getD, set, length-set}
+use lib.Seq.{paste, paste-zero, paste-suc}
+use Rattle.print.proofs.Writing.{put-all}
+use Rattle.print.proofs.put_bytes.Statement.{statement}
+use Rattle.print.proofs.put_bytes.Tie as tie
+
+abbrev Inv-loop : tie.InvT-loop
+Inv-loop out₀ at bytes i₀ out i = (out ≡ paste out₀ at bytes i) × (i ≤ length bytes) × (length out ≡ length out₀)
+
+abbrev μ-loop : tie.MeasureT-loop
+μ-loop out₀ at bytes i₀ out i = length bytes - i
+
+loop-holds : tie.Need-loop-holds Inv-loop μ-loop
+loop-holds c = (paste-zero (c .args .out .now) (c .args .at) (c .args .bytes .now), omega arith, refl)
+
+shared-slice-read-out : tie.Need-shared-slice-read-out Inv-loop μ-loop
+shared-slice-read-out c = omega arith
+
+add-out : tie.Need-add-out Inv-loop μ-loop
+add-out c = omega arith
+
+slice-write-out : tie.Need-slice-write-out Inv-loop μ-loop
+slice-write-out c = omega arith
+
+add-i : tie.Need-add-i Inv-loop μ-loop
+add-i c = omega arith
+
+loop-less : tie.Need-loop-less Inv-loop μ-loop
+loop-less c = omega arith
+
+loop-again : tie.Need-loop-again Inv-loop μ-loop
+loop-again c =
+    let s = c .before .before .before in
+    let loop = c .before .before .loop in
+    let d = s .args .out .now in
+    let at = s .args .at in
+    let bytes = s .args .bytes .now in (
+      (λ t. set (loop .inv .0 t) (at + loop .i) (getD bytes (loop .i) 0)) ∙ paste-suc d at bytes (loop .i) 0 (omega arith) (omega arith)
+          ∙ ap (paste d at bytes) (sym (add-one (loop .i))),
+      omega arith,
+      length-set (loop .out) (at + loop .i) (getD bytes (loop .i) 0) ∙ loop .inv .2,
+    )
+
+add-result : tie.Need-add-result Inv-loop μ-loop
+add-result c = omega arith
+
+same-length : tie.Need-same-length Inv-loop μ-loop
+same-length c = c .before .loop .inv .2
+
+returns : tie.Need-returns Inv-loop μ-loop
+returns c =
+    let s = c .before .before in
+    let inv = c .before .loop .inv in
+    put-all (s .args .out .now) (s .args .at) (s .args .bytes .now) (inv .0) (omega arith)
+
+pub put-bytes-spec : {M : Type 1} → statement M
+put-bytes-spec =
+    tie.close
+    (tie.spec
+    Inv-loop
+    μ-loop
+    loop-holds
+    shared-slice-read-out
+    add-out
+    slice-write-out
+    add-i
+    loop-less
+    loop-again
+    add-result
+    same-length
+    returns)

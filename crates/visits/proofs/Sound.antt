@@ -1,0 +1,72 @@
+-- A node of a sound table with all that is below it, under whatever number of levels is enough for it: its row is good and
+-- holds its points, its rows stand in the table, and its halves are such nodes again.
+use mathlib.Core.Path.{_≡_}
+use mathlib.Core.Bool.{true}
+use mathlib.Core.List.{List}
+use Prim.Native.Nat.{ℕ, zero, suc, _+_, _≤_, _<_}
+use native.Mathlib.Omega.{arith}
+use lib.Dec.{T}
+use lib.IntN.{ℤ}
+use Rattle.whole.specs.Order.{yes-T}
+use Rattle.rules.specs.declared.Line.{Line}
+use Rattle.rules.specs.declared.Node.{Node}
+use Rattle.rules.specs.Sheet.{point, segmentsOf}
+use Rattle.rules.specs.Tree.{rowAt, rowCount}
+use Rattle.rules.specs.Rows.{good}
+use Rattle.rules.specs.Walk.{Visit}
+use Rattle.rules.specs.Questions.{root, leftOf, rightOf, splitIn, startOf, headingOf, openNode}
+use Rattle.rules.specs.Build.{soundFrom, sound}
+use Rattle.visits.proofs.Nodes.{GoodRow, good-read, Fits, root-fits, fits-left, fits-right, open-fits, SoundNode, sound-read}
+use Rattle.visits.proofs.Held.{Held, held}
+
+pub record SoundTree (ps t : List ℤ) (n : Node) : Type 0 where
+  pub levels : ℕ
+  pub enough : n .last ≤ suc levels + n .first
+  pub node : SoundNode levels ps t n
+  pub fits : Fits (rowCount (segmentsOf ps)) n
+
+tree : {ps t : List ℤ} {n : Node} (f : ℕ) → T (soundFrom f ps t n) → n .last ≤ f + n .first → Fits (rowCount (segmentsOf ps)) n → SoundTree ps t n
+tree zero h e k = absurd (let l = k .some-segment in omega arith)
+tree {ps} {t} {n} (suc f) h e k = record { levels = f; enough = e; node = sound-read f ps t n (k .some-segment) h; fits = k }
+
+-- the root of a sound table
+pub root-tree : (ps t : List ℤ) → T (sound ps t) → 1 ≤ segmentsOf ps → SoundTree ps t (root ps)
+unfolding sound
+root-tree ps t h one = tree (segmentsOf ps) h (omega arith) (root-fits ps one)
+
+module _ {ps t : List ℤ} {n : Node} (g : SoundTree ps t n) where
+  -- refusal 10 does not come
+  pub row-good : good ps (rowAt t (n .row)) (n .first) (n .last) ≡ true
+  row-good = yes-T _ (g .node .row-good)
+
+  pub row-read : GoodRow ps (rowAt t (n .row)) (n .first) (n .last)
+  row-read = good-read ps (rowAt t (n .row)) (n .first) (n .last) (g .node .row-good)
+
+  -- strip and box hold each point of the run
+  pub row-holds : (i : ℕ) → n .first ≤ i → i ≤ n .last → Held (rowAt t (n .row)) (startOf ps n) (headingOf ps n) (point ps i)
+  row-holds i a b = held (rowAt t (n .row)) ps (n .first) (n .last) (point ps i) (g .node .holds i a b)
+
+  -- a leaf ends at the next point
+  pub leaf-next : n .last ≤ n .first + 1 → n .last ≡ suc (n .first)
+  leaf-next h = let l = g .fits .some-segment in omega arith
+
+  -- any other node splits at an inner point
+  abbrev pub splitAt : ℕ
+  splitAt = splitIn (rowAt t (n .row))
+
+  module _ (more : n .first + 1 < n .last) where
+    pub low : n .first < splitAt
+    low = row-read .split-between more .0
+
+    pub high : splitAt < n .last
+    high = row-read .split-between more .1
+
+    pub left-tree : SoundTree ps t (leftOf n splitAt)
+    left-tree = tree (g .levels) (g .node .halves more .0) (omega (arith, g .enough, high)) (fits-left _ n (g .fits) splitAt low high)
+
+    pub right-tree : SoundTree ps t (rightOf n splitAt)
+    right-tree = tree (g .levels) (g .node .halves more .1) (omega (arith, g .enough, low)) (fits-right _ n (g .fits) splitAt low high)
+
+    -- refusal 11 does not come: the visit goes on to the halves
+    pub opens : {S N : Type 0} (l : Line) (go : Node → Node → Visit S N) → openNode l ps n splitAt go ≡ go (leftOf n splitAt) (rightOf n splitAt)
+    opens l go = open-fits l ps n splitAt go (g .fits) low high
