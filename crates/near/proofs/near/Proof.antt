@@ -1,0 +1,114 @@
+-- `near` asks the checks in the order of the list; where none refuses, the walk answers.
+use mathlib.Core.Path.{_≡_, refl, sym, _∙_, ap}
+use mathlib.Core.Bool.{true}
+use mathlib.Core.Option.{Option, none}
+use borrow.Author.Tests.{not-true, not-false}
+use lib.IntN.{ℤ}
+use mir.Syntax.{w64}
+use mir.Facts.{toZ-ofZ}
+use Rattle.whole.specs.Order.{T-true}
+use Rattle.rules.specs.declared.Line.the-variants.{LineA}
+use Rattle.rules.specs.declared.Refusal.{Refusal}
+use Rattle.rules.specs.Sheet.{distanceFits, onSheet}
+use Rattle.rules.specs.Reply.{firstRefusal, answerReply}
+use Rattle.rules.specs.Rows.{lengthChecks}
+use Rattle.rules.specs.Walk.{fresh}
+use Rattle.rules.specs.Questions.{yesOrNo, nearWalk}
+use Rattle.line.specs.declared.Checked.the-variants.{Fine}
+use Rattle.line.specs.Said.{checkedRefusal}
+use Rattle.near.proofs.OnSheets.{on-sheet}
+use Rattle.near.proofs.Sizes.{stored-abs, distance-abs}
+use Rattle.near.proofs.Lengths.{lengths-fine}
+use Rattle.near.proofs.Replies.{near-checked}
+use borrow.Author.Needs.{needs}
+use Rattle.near.proofs.near.Statement.{statement}
+use Rattle.near.proofs.near.Tie as tie
+
+-- ---------------- what each check said
+abbrev lengthsRefusal : tie.Start → Option Refusal
+lengthsRefusal s = firstRefusal (lengthChecks LineA (s .args .points .now) (s .args .table .now))
+
+fine : (c : tie.After-enum-told) → lengthsRefusal (c .before .before .before) ≡ none
+fine c = let e : c .before .before .check-lengths .result ≡ Fine = cc in sym (c .before .before .check-lengths .ensures) ∙ ap checkedRefusal e
+
+distance-said : (c : tie.After-distance-fits) → c .distance-fits .result ≡ distanceFits (c .before .before .before .before .args .distance)
+distance-said c = c .distance-fits .ensures ∙ ap distanceFits (toZ-ofZ {w = w64} (c .before .before .before .before .fits .distance))
+
+check-lengths-requires : tie.Need-check-lengths-requires
+check-lengths-requires c κs = search needs
+
+enum-known-checked : tie.Need-enum-known-checked
+enum-known-checked c = search needs
+
+returns : tie.Need-returns
+returns c =
+    let a = c .before .before .before .before .args in
+    near-checked (a .points .now) (a .table .now) (a .z) (a .distance) (a .allowance) (sym (c .before .before .before .check-lengths .ensures) ∙ ap checkedRefusal (c .before .checked .given .1)) refl refl
+
+enum-told : tie.Need-enum-told
+enum-told c = search needs
+
+distance-fits-requires : tie.Need-distance-fits-requires
+distance-fits-requires c κs = search needs
+
+early-requires : tie.Need-early-requires
+early-requires c κs = search needs
+
+returns-2 : tie.Need-returns-2
+returns-2 c =
+    let a = c .before .before .before .before .before .before .args in
+    ap answerReply (c .early .ensures)
+    ∙ near-checked (a .points .now) (a .table .now) (a .z) (a .distance) (a .allowance) (fine (c .before .before .before)) (sym (distance-said (c .before .before)) ∙ not-true _ (c .before .if1 .taken)) refl
+
+on-sheet-requires : tie.Need-on-sheet-requires
+on-sheet-requires c κs = search needs
+
+early-requires-2 : tie.Need-early-requires-2
+early-requires-2 c κs = search needs
+
+-- the distance passed
+fits : (c : tie.Else1) → distanceFits (c .before .before .before .before .before .args .distance) ≡ true
+fits c = sym (distance-said (c .before)) ∙ not-false _ (c .if1 .left)
+
+returns-3 : tie.Need-returns-3
+returns-3 c =
+    let a = c .before .before .before .before .before .before .before .before .args in
+    ap answerReply (c .early2 .ensures)
+    ∙ near-checked (a .points .now) (a .table .now) (a .z) (a .distance) (a .allowance) (fine (c .before .before .before .before .before)) (fits (c .before .before .before)) (sym (c .before .before .on-sheet .ensures) ∙ not-true _ (c .before .if2 .taken))
+
+on : (c : tie.Else2) → onSheet (c .before .before .before .before .before .before .before .args .z) ≡ true
+on c = sym (c .before .on-sheet .ensures) ∙ not-false _ (c .if2 .left)
+
+ask-requires : tie.Need-ask-requires
+ask-requires c κs =
+    let d = c .before .before .before .before .before .before .before .args .distance in
+    (lengths-fine _ _ _ (fine (c .before .before .before .before)), on-sheet _ (T-true (on c)), stored-abs (distance-abs d (T-true (fits (c .before .before)))) tt)
+
+answer-requires : tie.Need-answer-requires
+answer-requires c κs = search needs
+
+returns-4 : tie.Need-returns-4
+returns-4 c =
+    let s = c .before .before .before .before .before .before .before .before .before in
+    let a = s .args in
+    c .answer .ensures
+    ∙ ap (yesOrNo (a .allowance)) (c .before .ask .ensures ∙ ap (λ (d : ℤ). nearWalk LineA (a .points .now) (a .table .now) (a .z) d (fresh (a .allowance))) (toZ-ofZ {w = w64} (s .fits .distance)))
+    ∙ near-checked (a .points .now) (a .table .now) (a .z) (a .distance) (a .allowance) (fine (c .before .before .before .before .before .before)) (fits (c .before .before .before .before)) (on (c .before .before))
+
+pub near-spec : {M : Type 1} → statement M
+near-spec =
+    tie.close
+    (tie.spec
+    check-lengths-requires
+    enum-known-checked
+    returns
+    enum-told
+    distance-fits-requires
+    early-requires
+    returns-2
+    on-sheet-requires
+    early-requires-2
+    returns-3
+    ask-requires
+    answer-requires
+    returns-4)

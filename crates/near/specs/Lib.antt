@@ -1,0 +1,4 @@
+-- What the contracts of `near` are said with.
+pub mod Bounds
+pub mod Fine
+pub mod Said

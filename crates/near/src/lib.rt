@@ -1,0 +1,263 @@
+// NEAR: whether a point lies within a distance of a line. One visit reads one row, checks it, and dismisses the node, tests
+// its one segment or halves it; the walk and the answer are those of `rules`, for all numbers that the slices can hold.
+use line::Checked;
+use line::Walk;
+use rules::Answer;
+use rules::Line;
+use rules::Next;
+use rules::Node;
+use rules::Point;
+use rules::Refusal;
+use rules::Row;
+use rules::Tally;
+ghost use mathlib.Core.Path.{_≡_};
+ghost use Prim.Native.Nat.{ℕ, _+_, _*_, _-_, _<_, _≤_};
+ghost use lib.IntN.{pos, _+ℤ_, _*ℤ_};
+ghost use lib.Signed.{ltZ, _≤ℤ_};
+ghost use Rattle.whole.specs.Range.{Abs≤};
+ghost use Rattle.rules.specs.Plane.{step, size²};
+ghost use Rattle.rules.specs.Sheet.{farthest, distanceFits};
+ghost use Rattle.rules.specs.Plain.{within};
+ghost use Rattle.rules.specs.Reply.{answerReply};
+ghost use Rattle.rules.specs.Walk.{refused, walk};
+ghost use Rattle.rules.specs.Questions.{leftOf, rightOf, shortfall, farFrom, nearVisit, nearWalk, nearReply};
+ghost use Rattle.line.specs.Said.{walked};
+ghost use Rattle.line.specs.Small.{OnSheet, Small};
+ghost use Rattle.near.specs.Bounds.{widest, HoldsStart};
+ghost use Rattle.near.specs.Fine.{LengthsFine, Stands};
+ghost use Rattle.near.specs.Said.{visitOf, SplitsInside};
+
+// Whether g^2 + h^2 is above d^2*v: every squared comparison is this one.
+fn farther(g: i64, h: i64, d: i64, v: i64) -> bool
+    requires { ⌜ Abs≤ widest g × Abs≤ widest h × Abs≤ farthest d × Abs≤ widest v ⌝ }
+    ensures { λ r. ⌜ r ≡ ltZ (d *ℤ d *ℤ v) (g *ℤ g +ℤ h *ℤ h) ⌝ }
+{
+    d * d * v < g * g + h * h
+}
+
+// The step from a to b.
+fn step(a: Point, b: Point) -> Point
+    requires { ⌜ OnSheet a × OnSheet b ⌝ }
+    ensures { λ r. ⌜ r ≡ step a b ⌝ }
+{
+    Point {
+        x: b.x - a.x,
+        y: b.y - a.y,
+    }
+}
+
+// Whether b is more than d away from a.
+fn apart(a: Point, b: Point, d: i64) -> bool
+    requires { ⌜ OnSheet a × OnSheet b × Abs≤ farthest d ⌝ }
+    ensures { λ r. ⌜ r ≡ ltZ (d *ℤ d) (size² (step a b)) ⌝ }
+{
+    let u = step(a, b);
+    farther(u.x, u.y, d, 1)
+}
+
+// Whether the segment a to b is within d of z: by its start, its end, or along it.
+pub fn within(z: Point, a: Point, b: Point, d: i64) -> bool
+    requires { ⌜ OnSheet z × OnSheet a × OnSheet b × Abs≤ farthest d ⌝ }
+    ensures { λ r. ⌜ r ≡ within z a b d ⌝ }
+{
+    let u = step(a, b);
+    let t = line::t_at(a, u, z);
+    if t <= 0 {
+        return !apart(a, z, d);
+    }
+    let v = line::size2(u);
+    if v <= t {
+        return !apart(b, z, d);
+    }
+    !farther(line::c_at(a, u, z), 0, d, v)
+}
+
+// How far v lies outside the range lo to hi, which holds 0.
+fn shortfall(lo: i64, hi: i64, v: i64) -> i64
+    requires { ⌜ (lo ≤ℤ pos 0) × (pos 0 ≤ℤ hi) × Abs≤ widest v ⌝ }
+    ensures { λ r. ⌜ r ≡ shortfall lo hi v ⌝ }
+{
+    if v < lo {
+        return lo - v;
+    }
+    if hi < v {
+        return v - hi;
+    }
+    0
+}
+
+// Whether the strip of a node is more than d away from z.
+fn far_from(r: Row, s: Point, u: Point, z: Point, d: i64) -> bool
+    requires { ⌜ HoldsStart r × OnSheet s × Small u × OnSheet z × Abs≤ farthest d ⌝ }
+    ensures { λ g. ⌜ g ≡ farFrom r s u z d ⌝ }
+{
+    let gc = shortfall(r.cmin, r.cmax, line::c_at(s, u, z));
+    let gt = shortfall(r.tmin, r.tmax, line::t_at(s, u, z));
+    farther(gc, gt, d, line::size2(u))
+}
+
+// What one visit does: a bad row, a child beyond the rows, a yes, nothing near, or two halves.
+enum Visited {
+    Bad,
+    Beyond,
+    Finish,
+    Pass,
+    Halve(usize),
+}
+
+fn visit(points: &[i32], table: &[i32], node: Node, z: Point, d: i64) -> Visited
+    requires { ⌜ Stands (now points) (now table) node × OnSheet z × Abs≤ farthest d ⌝ }
+    ensures { λ r. ⌜ ((l : Line) → visitOf l node r ≡ nearVisit l (now (points .entry)) (now (table .entry)) z d node) ⌝ }
+    ensures { λ r. ⌜ SplitsInside node r ⌝ }
+{
+    let first = node.first;
+    let last = node.last;
+    let row = line::row_at(table, node.row);
+    if !line::row_good(points, row, first, last) {
+        return Visited::Bad;
+    }
+    let a = line::point_at(points, first);
+    let b = line::point_at(points, last);
+    if far_from(row, a, line::direction(a, b), z, d) {
+        return Visited::Pass;
+    }
+    if last <= first + 1 {
+        if within(z, a, b, d) {
+            return Visited::Finish;
+        }
+        return Visited::Pass;
+    }
+    let split = row.split as usize;
+    if !line::children_fit(points, node, split) {
+        return Visited::Beyond;
+    }
+    Visited::Halve(split)
+}
+
+fn left_of(node: Node, split: usize) -> Node
+    requires { ⌜ node .row < 8193 ⌝ }
+    ensures { λ r. ⌜ r ≡ leftOf node split ⌝ }
+{
+    Node {
+        row: node.row + 1,
+        first: node.first,
+        last: split,
+    }
+}
+
+fn right_of(node: Node, split: usize) -> Node
+    requires { ⌜ (node .row < 8193) × (node .first < split) × (split < 4097) ⌝ }
+    ensures { λ r. ⌜ r ≡ rightOf node split ⌝ }
+{
+    Node {
+        row: node.row + 2 * (split - node.first),
+        first: split,
+        last: node.last,
+    }
+}
+
+// The walk stops at a node: refused, with the visits made.
+fn refused(number: u32, line: Line, node: Node, tally: Tally) -> Walk
+    ensures { λ r. ⌜ walked r ≡ refused (record { number = number; line = line; place = node .row; visits = tally .visits }) ⌝ }
+{
+    Walk::Refused(Refusal {
+        number,
+        line,
+        place: node.row,
+        visits: tally.visits,
+    })
+}
+
+// The walk from a node on, left child first; a yes ends it.
+fn walk(
+    line: Line,
+    points: &[i32],
+    table: &[i32],
+    node: Node,
+    z: Point,
+    d: i64,
+    tally: Tally,
+) -> Walk
+    requires { ⌜ Stands (now points) (now table) node × OnSheet z × Abs≤ farthest d ⌝ }
+    ensures { λ r. ⌜ ((f : ℕ) → node .last ≤ f + node .first → walked r ≡ walk (nearVisit line (now (points .entry)) (now (table .entry)) z d) f node tt tally) ⌝ }
+{
+    let Next::Left(counted) = tally.visit() else {
+        return Walk::Spent;
+    };
+    match visit(points, table, node, z, d) {
+        Visited::Bad => refused(10, line, node, counted),
+        Visited::Beyond => refused(11, line, node, counted),
+        Visited::Finish => Walk::Ended(counted),
+        Visited::Pass => Walk::Over(counted),
+        Visited::Halve(split) => {
+            let left = walk(line, points, table, left_of(node, split), z, d, counted);
+            let Walk::Over(after) = left else {
+                return left;
+            };
+            walk(line, points, table, right_of(node, split), z, d, after)
+        }
+    }
+}
+
+// NEAR of a line whose lengths, and a point and a distance, are checked; the tally goes on.
+pub fn ask(line: Line, points: &[i32], table: &[i32], z: Point, d: i64, tally: Tally) -> Walk
+    requires { ⌜ LengthsFine (now points) (now table) × OnSheet z × Abs≤ farthest d ⌝ }
+    ensures { λ r. ⌜ walked r ≡ nearWalk line (now (points .entry)) (now (table .entry)) z d tally ⌝ }
+{
+    let last = points.len() / 2 - 1;
+    walk(
+        line,
+        points,
+        table,
+        Node {
+            row: 0,
+            first: 0,
+            last,
+        },
+        z,
+        d,
+        tally,
+    )
+}
+
+pub fn distance_fits(d: i64) -> bool
+    ensures { λ r. ⌜ r ≡ distanceFits d ⌝ }
+{
+    0 <= d && d <= 32767
+}
+
+// Refused before the walk, with no line at fault.
+fn early(number: u32) -> Answer
+    ensures { λ r. ⌜ r ≡ Answer.Refused (record { number = number; line = Line.NoLine; place = 0; visits = 0 }) ⌝ }
+{
+    Answer::Refused(Refusal {
+        number,
+        line: Line::NoLine,
+        place: 0,
+        visits: 0,
+    })
+}
+
+// Whether z is within the distance of the line: refusals 1, 2, 3, 6, 7 and 8, then the walk.
+pub fn near(points: &[i32], table: &[i32], z: Point, distance: i64, allowance: u32) -> Answer
+    ensures { λ r. ⌜ answerReply r ≡ nearReply (now (points .entry)) (now (table .entry)) z distance allowance ⌝ }
+{
+    let checked = line::check_lengths(Line::LineA, points, table);
+    if let Checked::Refused(refusal) = checked {
+        return Answer::Refused(refusal);
+    }
+    if !distance_fits(distance) {
+        return early(7);
+    }
+    if !line::on_sheet(z) {
+        return early(8);
+    }
+    let fresh = Tally {
+        allowance,
+        visits: 0,
+    };
+    line::answer(
+        ask(Line::LineA, points, table, z, distance, fresh),
+        allowance,
+    )
+}
