@@ -1,0 +1,179 @@
+-- A run of points, read from its first point to point i: what is measured so far. The ends of a run have c = 0 and stand
+-- farthest from its middle, so going through all the points finds the split among the inner ones.
+use mathlib.Core.Path.{_≡_, refl, sym, ap, _∙_}
+use mathlib.Core.Bool.{Bool, true, false, cond, _&&_, _||_, and-false, or-true}
+use mathlib.Core.Logic.{⊎-elim}
+use mathlib.Core.List.{List}
+use Prim.Native.Nat.{ℕ, zero, suc, _+_, _-_, _≤_, _<_}
+use native.Mathlib.Nat.{zero-add, sub-zero}
+use native.Mathlib.Omega.{arith}
+use borrow.Author.Tests.{lt-ltb, le-ltb, eq-eqb, le-leb, lt-leb}
+use lib.Dec.{ltb, eqb}
+use lib.IntN.{ℤ, pos, natAbs}
+use mir.Facts.{and-yes}
+use Rattle.whole.specs.Laws.{cond-ind}
+use Rattle.whole.specs.Check.{con, _:+_, _:*_, _:-_, _:=_, ring}
+use Rattle.whole.specs.Order.{eqZ, eqZ-yes}
+use Rattle.rules.specs.declared.Point.{Point}
+use Rattle.rules.specs.Plane.{samePoint, step, direction, cAt, tAt}
+use Rattle.rules.specs.Sheet.{point, segmentsOf}
+use Rattle.rules.specs.Tree.{nodeC, nodeT, least, greatest, height, offMiddle, better, best, splitOf, measured, isLeaf}
+use Rattle.built.proofs.Rows.{≤-or->}
+use Rattle.build.specs.declared.run.Top.{Top}
+use Rattle.build.specs.declared.run.Measured.{Measured}
+use Rattle.build.specs.Run.{startOf, spanWith, measuredWith, measureOf}
+
+-- ---------------- c at the ends of a run
+
+c-start : (s u : Point) → cAt s u s ≡ pos 0
+c-start s u = ring 4 (λ a b x y. a :* (y :- y) :- b :* (x :- x) := con (pos 0)) tt (u .x) (u .y) (s .x) (s .y)
+
+t-start : (s u : Point) → tAt s u s ≡ pos 0
+t-start s u = ring 4 (λ a b x y. a :* (x :- x) :+ b :* (y :- y) := con (pos 0)) tt (u .x) (u .y) (s .x) (s .y)
+
+c-end : (s e : Point) → cAt s (direction s e) e ≡ pos 0
+unfolding direction
+c-end s e =
+    cond-ind (samePoint s e) (record { x = pos 1; y = pos 0 }) (step s e) (λ u. cAt s u e ≡ pos 0)
+    (λ t. level (eqZ-yes {a = s .y} {b = e .y} (and-yes (eqZ (s .x) (e .x)) (eqZ (s .y) (e .y)) t .1)))
+    (λ _. ring 4 (λ x y v w. (v :- x) :* (w :- y) :- (w :- y) :* (v :- x) := con (pos 0)) tt (s .x) (s .y) (e .x) (e .y))
+  where
+    level : s .y ≡ e .y → cAt s (record { x = pos 1; y = pos 0 }) e ≡ pos 0
+    level q =
+        ap (λ (y : ℤ). cAt s (record { x = pos 1; y = pos 0 }) (record { x = e .x; y = y })) (sym q)
+        ∙ ring 3 (λ x y v. con (pos 1) :* (y :- y) :- con (pos 0) :* (v :- x) := con (pos 0)) tt (s .x) (s .y) (e .x)
+
+-- ---------------- the point with the greatest height so far
+
+unfoldable pub topSoFar : List ℤ → ℕ → ℕ → ℕ
+topSoFar q last zero = 0
+topSoFar q last (suc i) = cond (better q 0 last (topSoFar q last i) (suc i)) (suc i) (topSoFar q last i)
+
+-- strip and box of the points 0 to i, and the split s
+abbrev upTo : List ℤ → ℕ → ℕ → ℕ → Measured
+upTo q last i s = record {
+  c = record { lo = least (λ j. nodeC q 0 last (point q j)) 0 i; hi = greatest (λ j. nodeC q 0 last (point q j)) 0 i };
+  t = record { lo = least (λ j. nodeT q 0 last (point q j)) 0 i; hi = greatest (λ j. nodeT q 0 last (point q j)) 0 i };
+  x = record { lo = least (λ j. point q j .x) 0 i; hi = greatest (λ j. point q j .x) 0 i };
+  y = record { lo = least (λ j. point q j .y) 0 i; hi = greatest (λ j. point q j .y) 0 i };
+  top = record { split = s; height = height q 0 last s };
+}
+
+abbrev pub soFar : List ℤ → ℕ → ℕ → Measured
+soFar q last i = upTo q last i (topSoFar q last i)
+
+module _ (q : List ℤ) (last : ℕ) where
+  height-start : height q 0 last 0 ≡ 0
+  unfolding height
+  height-start = ap natAbs (c-start (point q 0) (direction (point q 0) (point q last)))
+
+  height-end : height q 0 last last ≡ 0
+  unfolding height
+  height-end = ap natAbs (c-end (point q 0) (point q last))
+
+  pub top-below : (i : ℕ) → topSoFar q last i ≤ i
+  unfolding topSoFar
+  top-below zero = omega arith
+  top-below (suc i) =
+      let ih = top-below i in
+      cond-ind (better q 0 last (topSoFar q last i) (suc i)) (suc i) (topSoFar q last i) (λ n. n ≤ suc i) (λ _. omega arith) (λ _. omega arith)
+
+  -- the first point alone
+  pub so-far-start : soFar q last 0 ≡ startOf (point q 0)
+  unfolding least greatest topSoFar
+  so-far-start =
+      let u = direction (point q 0) (point q last) in
+      λ d. record {
+        c = record { lo = c-start (point q 0) u d; hi = c-start (point q 0) u d };
+        t = record { lo = t-start (point q 0) u d; hi = t-start (point q 0) u d };
+        x = record { lo = point q 0 .x; hi = point q 0 .x };
+        y = record { lo = point q 0 .y; hi = point q 0 .y };
+        top = record { split = 0; height = height-start d };
+      }
+
+  -- one point more
+  pub so-far-more : (i : ℕ) → soFar q last (suc i) ≡ measuredWith (soFar q last i) (nodeC q 0 last (point q (suc i))) (nodeT q 0 last (point q (suc i))) last (suc i) (point q (suc i))
+  unfolding least greatest topSoFar better height
+  so-far-more i =
+      let j = zero-add (suc i) in
+      let m = soFar q last i in
+      let e = one-top (better q 0 last (topSoFar q last i) (suc i)) (suc i) (topSoFar q last i) in
+      λ d. record {
+        c = spanWith (m .c) (nodeC q 0 last (point q (j d)));
+        t = spanWith (m .t) (nodeT q 0 last (point q (j d)));
+        x = spanWith (m .x) (point q (j d) .x);
+        y = spanWith (m .y) (point q (j d) .y);
+        top = e d;
+      }
+    where
+      topAt : ℕ → Top
+      topAt i = record { split = i; height = height q 0 last i }
+
+      one-top : (b : Bool) (i s : ℕ) → topAt (cond b i s) ≡ cond b (topAt i) (topAt s)
+      one-top true i s = refl
+      one-top false i s = refl
+
+  -- the first inner point takes the place of the first point
+  first-inner : 1 < last → better q 0 last 0 1 ≡ true
+  unfolding better
+  first-inner h = ⊎-elim even above (≤-or-> (height q 0 last 1) 0)
+    where
+      nearer : Bool
+      nearer = ltb (offMiddle 0 last 1) (offMiddle 0 last 0)
+
+      even : height q 0 last 1 ≤ 0 → ltb (height q 0 last 0) (height q 0 last 1) || (eqb (height q 0 last 0) (height q 0 last 1) && nearer) ≡ true
+      even k =
+          let e = eq-eqb (height q 0 last 0) (height q 0 last 1) (omega (arith, height-start)) in
+          let o = lt-ltb (offMiddle 0 last 1) (offMiddle 0 last 0) (omega arith) in
+          (λ d. ltb (height q 0 last 0) (height q 0 last 1) || (e d && o d)) ∙ or-true (ltb (height q 0 last 0) (height q 0 last 1))
+
+      above : 0 < height q 0 last 1 → ltb (height q 0 last 0) (height q 0 last 1) || (eqb (height q 0 last 0) (height q 0 last 1) && nearer) ≡ true
+      above k =
+          let l = lt-ltb (height q 0 last 0) (height q 0 last 1) (omega (arith, height-start)) in
+          λ d. l d || (eqb (height q 0 last 0) (height q 0 last 1) && nearer)
+
+  -- the last point takes no place
+  last-passed : (s : ℕ) → s ≤ last → better q 0 last s last ≡ false
+  unfolding better
+  last-passed s h =
+      let l = ap (ltb (height q 0 last s)) height-end ∙ le-ltb (height q 0 last s) 0 (omega arith) in
+      let o = le-ltb (offMiddle 0 last last) (offMiddle 0 last s) (omega arith) in
+      (λ d. l d || (eqb (height q 0 last s) (height q 0 last last) && o d)) ∙ and-false (eqb (height q 0 last s) (height q 0 last last))
+
+  -- among the inner points
+  inner-top : (i : ℕ) → suc i < last → topSoFar q last (suc i) ≡ best q 0 last i
+  unfolding topSoFar best
+  inner-top zero h = ap (λ (b : Bool). cond b 1 0) (first-inner h)
+  inner-top (suc i) h =
+      let ih = inner-top i (omega arith) in
+      let j : suc (suc i) ≡ 0 + 1 + suc i = omega arith in
+      λ d. cond (better q 0 last (ih d) (j d)) (j d) (ih d)
+
+  -- so the split of the whole run
+  top-all : (i : ℕ) → suc i ≡ last → topSoFar q last (suc i) ≡ cond (isLeaf 0 last) 0 (splitOf q 0 last)
+  unfolding topSoFar splitOf
+  top-all i e = passed ∙ inner i e
+    where
+      passed : cond (better q 0 last (topSoFar q last i) (suc i)) (suc i) (topSoFar q last i) ≡ topSoFar q last i
+      passed =
+          ap (λ (b : Bool). cond b (suc i) (topSoFar q last i))
+          (ap (better q 0 last (topSoFar q last i)) e ∙ last-passed (topSoFar q last i) (omega (arith, top-below i)))
+
+      inner : (i : ℕ) → suc i ≡ last → topSoFar q last i ≡ cond (isLeaf 0 last) 0 (best q 0 last (last - 0 - 2))
+      inner zero e = sym (ap (λ (b : Bool). cond b 0 (best q 0 last (last - 0 - 2))) (le-leb last (0 + 1) (omega arith)))
+      inner (suc i) e =
+          let k : i ≡ last - 0 - 2 = omega arith in
+          inner-top i (omega arith) ∙ ap (best q 0 last) k
+          ∙ sym (ap (λ (b : Bool). cond b 0 (best q 0 last (last - 0 - 2))) (lt-leb last (0 + 1) (omega arith)))
+
+-- the whole run
+pub so-far-all : (q : List ℤ) → 1 ≤ segmentsOf q → soFar q (segmentsOf q) (segmentsOf q) ≡ measureOf q
+unfolding measured
+so-far-all q h = all (segmentsOf q) refl h
+  where
+    all : (last : ℕ) → segmentsOf q ≡ last → 1 ≤ last → soFar q (segmentsOf q) (segmentsOf q) ≡ measureOf q
+    all zero e k = absurd (omega arith)
+    all (suc i) e k =
+        let n = sym (sub-zero (segmentsOf q)) in
+        let s = ap (topSoFar q (segmentsOf q)) e ∙ top-all q (segmentsOf q) i (sym e) in
+        λ d. upTo q (segmentsOf q) (n d) (s d)

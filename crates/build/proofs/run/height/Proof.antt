@@ -1,0 +1,48 @@
+-- `height`: a number below 0 is taken from 0, and either way what is cast is not negative.
+use mathlib.Core.Path.{_≡_, refl, _∙_, ap}
+use lib.IntN.{ℤ, pos, negℤ, natAbs, _-ℤ_}
+use lib.Signed.{_≤ℤ_, _<ℤ_}
+use mir.Syntax.{w64}
+use mir.Val.{toZ, ofZ}
+use mir.Facts.{toZ-ofZ}
+use Rattle.whole.specs.Laws.{zarith, P-neg, N-neg}
+use Rattle.whole.specs.Check.{con, _:-_, :neg, _:=_, ring}
+use Rattle.whole.specs.Order.{lt-yes, lt-no}
+use Rattle.whole.specs.Range.{Abs≤, nil, _&_, abs-neg, fits}
+use Rattle.whole.specs.Machine.{MExpr, lit, rd, _⊖_, in-abs, safe-step, reads, nat-cast}
+use Rattle.built.specs.RowRange.{stripMost}
+use borrow.Author.Needs.{needs}
+use Rattle.build.proofs.run.height.Statement.{statement}
+use Rattle.build.proofs.run.height.Tie as tie
+
+abbrev formula : MExpr → MExpr
+formula v = rd w64 (lit (pos 0) ⊖ v)
+
+negated : (v : ℤ) → Abs≤ stripMost v → toZ w64 (ofZ w64 (pos 0 -ℤ toZ w64 (ofZ w64 v))) ≡ negℤ v
+negated v h = reads 1 formula (in-abs h tt & nil) tt ∙ ring 1 (λ a. con (pos 0) :- a := :neg a) tt v
+
+neg-above : {v : ℤ} → v <ℤ pos 0 → pos 0 ≤ℤ negℤ v
+neg-above {v} h = omega (zarith, P-neg v, N-neg v)
+
+sub-result : tie.Need-sub-result
+sub-result c = safe-step 1 formula 0 (in-abs (c .before .pre) tt & nil) tt
+
+cast-result : tie.Need-cast-result
+cast-result c =
+    let v = c .before .args .c in
+    nat-cast {w = w64} {w′ = w64} (fits 1 w64 (λ a. :neg a) (c .before .pre & nil) tt) tt (negated v (c .before .pre))
+    (neg-above (lt-yes (toZ-ofZ {w = w64} (c .before .fits .c)) refl (c .if1 .taken)))
+
+returns : tie.Need-returns
+returns c = let v = c .before .args .c in ap natAbs (negated v (c .before .pre)) ∙ abs-neg v
+
+cast-result-2 : tie.Need-cast-result-2
+cast-result-2 c =
+    let e = toZ-ofZ {w = w64} (c .before .fits .c) in
+    nat-cast {w = w64} {w′ = w64} (c .before .fits .c) tt e (lt-no e refl (c .if1 .left))
+
+returns-2 : tie.Need-returns-2
+returns-2 c = search needs
+
+pub height-spec : {M : Type 1} → statement M
+height-spec = tie.close (tie.spec sub-result cast-result returns cast-result-2 returns-2)

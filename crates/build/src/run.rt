@@ -1,0 +1,159 @@
+// A run of points, handed on by itself: its extents and its split point, found in one pass.
+use line::c_at;
+use line::direction;
+use line::point_at;
+use line::t_at;
+use rules::Point;
+ghost use mathlib.Core.Path.{_≡_};
+ghost use Prim.Native.Nat.{_≤_, _<_};
+ghost use lib.IntN.{natAbs};
+ghost use Rattle.whole.specs.Order.{minZ, maxZ};
+ghost use Rattle.whole.specs.Range.{Abs≤};
+ghost use Rattle.rules.specs.Plane.{cAt, tAt};
+ghost use Rattle.rules.specs.Sheet.{segmentsOf};
+ghost use Rattle.rules.specs.Tree.{offMiddle};
+ghost use Rattle.line.specs.Small.{OnSheet, Small};
+ghost use Rattle.built.specs.RowRange.{stripMost};
+ghost use Rattle.build.specs.Run.{AllOnSheet, spanOf, spanWith, topWith, startOf, measuredWith, measureOf};
+
+// The least and the greatest of some numbers.
+pub struct Span {
+    pub lo: i64,
+    pub hi: i64,
+}
+
+// The point that a run splits at, and its absolute c.
+pub struct Top {
+    pub split: usize,
+    pub height: usize,
+}
+
+// What is measured of a run: its strip, its box and its split point, which is counted from the run's first point.
+pub struct Measured {
+    pub c: Span,
+    pub t: Span,
+    pub x: Span,
+    pub y: Span,
+    pub top: Top,
+}
+
+fn lesser(a: i64, b: i64) -> i64
+    ensures { λ r. ⌜ r ≡ minZ a b ⌝ }
+{
+    if a < b { a } else { b }
+}
+
+fn greater(a: i64, b: i64) -> i64
+    ensures { λ r. ⌜ r ≡ maxZ a b ⌝ }
+{
+    if a < b { b } else { a }
+}
+
+impl Span {
+    fn of(v: i64) -> Span
+        ensures { λ r. ⌜ r ≡ spanOf v ⌝ }
+    {
+        Span { lo: v, hi: v }
+    }
+
+    fn with(self, v: i64) -> Span
+        ensures { λ r. ⌜ r ≡ spanWith self v ⌝ }
+    {
+        Span {
+            lo: lesser(self.lo, v),
+            hi: greater(self.hi, v),
+        }
+    }
+}
+
+// The absolute value of c.
+fn height(c: i64) -> usize
+    requires { ⌜ Abs≤ stripMost c ⌝ }
+    ensures { λ r. ⌜ r ≡ natAbs c ⌝ }
+{
+    if c < 0 {
+        return (-c) as usize;
+    }
+    c as usize
+}
+
+// |2i - last|.
+fn off_middle(last: usize, i: usize) -> usize
+    requires { ⌜ (i ≤ last) × (last < 4097) ⌝ }
+    ensures { λ r. ⌜ r ≡ offMiddle 0 last i ⌝ }
+{
+    if 2 * i < last {
+        return last - 2 * i;
+    }
+    2 * i - last
+}
+
+impl Top {
+    // The top, or point i, which is above it, where that is better.
+    fn with(self, last: usize, i: usize, height: usize) -> Top
+        requires { ⌜ (self .split ≤ last) × (i ≤ last) × (last < 4097) ⌝ }
+        ensures { λ r. ⌜ r ≡ topWith last self i height ⌝ }
+    {
+        let top = self.height;
+        if top < height {
+            return Top { split: i, height };
+        }
+        if height < top {
+            return self;
+        }
+        if off_middle(last, i) < off_middle(last, self.split) {
+            return Top { split: i, height };
+        }
+        self
+    }
+}
+
+impl Measured {
+    // The first point alone.
+    fn start(s: Point) -> Measured
+        ensures { λ r. ⌜ r ≡ startOf s ⌝ }
+    {
+        Measured {
+            c: Span::of(0),
+            t: Span::of(0),
+            x: Span::of(s.x),
+            y: Span::of(s.y),
+            top: Top {
+                split: 0,
+                height: 0,
+            },
+        }
+    }
+
+    // One point more: point i of a run to point last, with s and u.
+    fn with(self, s: Point, u: Point, last: usize, i: usize, p: Point) -> Measured
+        requires { ⌜ OnSheet s × Small u × OnSheet p × (self .top .split ≤ last) × (i ≤ last) × (last < 4097) ⌝ }
+        ensures { λ r. ⌜ r ≡ measuredWith self (cAt s u p) (tAt s u p) last i p ⌝ }
+    {
+        let c = c_at(s, u, p);
+        let t = t_at(s, u, p);
+        Measured {
+            c: self.c.with(c),
+            t: self.t.with(t),
+            x: self.x.with(p.x),
+            y: self.y.with(p.y),
+            top: self.top.with(last, i, height(c)),
+        }
+    }
+}
+
+pub fn measure(run: &[i32]) -> Measured
+    requires { ⌜ AllOnSheet (now run) × (1 ≤ segmentsOf (now run)) × (segmentsOf (now run) < 4097) ⌝ }
+    ensures { λ r. ⌜ r ≡ measureOf (now (run .entry)) ⌝ }
+{
+    let last = run.len() / 2 - 1;
+    let s = point_at(run, 0);
+    let u = direction(s, point_at(run, last));
+    let mut m = Measured::start(s);
+    let mut i: usize = 0;
+    while i < last {
+        i += 1;
+        m = m.with(s, u, last, i, point_at(run, i));
+    }
+    m
+}

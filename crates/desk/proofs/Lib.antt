@@ -1,0 +1,3 @@
+-- Theorems about the question program's definition.
+pub mod Figures
+pub mod Chunks

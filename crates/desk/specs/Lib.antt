@@ -1,0 +1,5 @@
+-- Document 01, "The question program", as a function from the bytes read to the bytes written.
+pub mod Desk
+pub mod Program
+pub mod Chunks
+pub mod Kept

@@ -1,0 +1,25 @@
+-- `halve` asks whether the children's rows are below 2n-1.
+use mathlib.Core.Path.{_≡_, sym, _∙_}
+use mathlib.Core.Bool.{Bool, true, false}
+use borrow.Author.Tests.{not-true, not-false}
+use Rattle.line.specs.Said.{childrenFit}
+use borrow.Author.Needs.{needs}
+use Rattle.inside.proofs.Visits.{open-beyond, open-halves}
+use Rattle.inside.proofs.halve.Statement.{statement}
+use Rattle.inside.proofs.halve.Tie as tie
+
+children-fit-requires : tie.Need-children-fit-requires
+children-fit-requires c κs = search needs
+
+returns : tie.Need-returns
+returns c =
+    let a = c .before .before .args in
+    (open-beyond (a .points .now) (a .node) (a .split) (sym (c .before .children-fit .ensures) ∙ not-true _ (c .if1 .taken)), tt)
+
+returns-2 : tie.Need-returns-2
+returns-2 c =
+    let a = c .before .before .args in
+    (open-halves (a .points .now) (a .node) (a .split) (sym (c .before .children-fit .ensures) ∙ not-false _ (c .if1 .left)), c .before .before .pre .3)
+
+pub halve-spec : {M : Type 1} → statement M
+halve-spec = tie.close (tie.spec children-fit-requires returns returns-2)

@@ -1,0 +1,143 @@
+-- `visit` reads the row and goes by the cases of the definition; a good row has its end points on the sheet, and its split
+-- inside the node.
+use mathlib.Core.Path.{_≡_, sym, _∙_, ap, subst}
+use native.Mathlib.Omega.{arith}
+use borrow.Author.Tests.{not-true, not-false, le-leb, lt-leb}
+use lib.IntN.{natAbs}
+use mir.Syntax.{w64}
+use mir.Val.{toZ, ofZ}
+use Rattle.whole.specs.Order.{T-true}
+use Rattle.whole.specs.Machine.{nat-cast}
+use Rattle.rules.specs.Questions.{clearOf}
+use Rattle.visits.proofs.Nodes.{GoodRow, good-read}
+use Rattle.line.specs.Small.{OnSheet, Small}
+use borrow.Author.Needs.{needs}
+use Rattle.inside.proofs.Held.{held}
+use Rattle.inside.proofs.OnSheets.{on-sheet}
+use Rattle.inside.proofs.Places.{row-small}
+use Rattle.inside.proofs.Splits.{split-above}
+use Rattle.inside.proofs.Steps.{direction-small}
+use Rattle.inside.proofs.Visits.{RowRead, isClear, visit-bad, visit-clear, visit-leaf, visit-open}
+use Rattle.inside.proofs.visit.Statement.{statement}
+use Rattle.inside.proofs.visit.Tie as tie
+
+-- ---------------- the row that was read
+row-at-requires : tie.Need-row-at-requires
+row-at-requires c κs = search needs
+
+row-good-requires : tie.Need-row-good-requires
+row-good-requires c κs = search needs
+
+returns : tie.Need-returns
+returns c =
+    let a = c .before .before .before .args in
+    let bad = sym (c .before .row-good .ensures) ∙ not-true _ (c .if1 .taken) in
+    (visit-bad (a .points .now) (a .table .now) (a .z) (a .node) _ (c .before .before .row-at .ensures) bad, tt)
+
+-- ---------------- its end points, and whether z is clear of it
+point-at-requires : tie.Need-point-at-requires
+point-at-requires c κs = search needs
+
+point-at-requires-2 : tie.Need-point-at-requires-2
+point-at-requires-2 c κs = search needs
+
+abbrev start : tie.After-point-at2 → tie.Start
+start c = c .before .before .before .before .before
+
+abbrev read : (c : tie.After-point-at2) → RowRead (start c .args .points .now) (start c .args .table .now) (start c .args .node)
+read c = record {
+  row = c .before .before .before .before .row-at .result;
+  start = c .before .point-at .result;
+  end = c .point-at2 .result;
+  row-is = c .before .before .before .before .row-at .ensures;
+  start-is = c .before .point-at .ensures;
+  end-is = c .point-at2 .ensures;
+  fine = sym (c .before .before .before .row-good .ensures) ∙ not-false _ (c .before .before .if1 .left);
+}
+
+good-row : (c : tie.After-point-at2) → GoodRow (start c .args .points .now) (read c .row) (start c .args .node .first) (start c .args .node .last)
+good-row c = good-read _ _ _ _ (T-true (read c .fine))
+
+start-on : (c : tie.After-point-at2) → OnSheet (read c .start)
+start-on c = subst OnSheet (sym (read c .start-is)) (on-sheet _ (good-row c .start-on))
+
+end-on : (c : tie.After-point-at2) → OnSheet (read c .end)
+end-on c = subst OnSheet (sym (read c .end-is)) (on-sheet _ (good-row c .end-on))
+
+direction-requires : tie.Need-direction-requires
+direction-requires c κs = (start-on c, end-on c)
+
+clear-of-requires : tie.Need-clear-of-requires
+clear-of-requires c κs =
+    let p = c .before in (start-on p, subst Small (sym (c .direction .ensures)) (direction-small (start-on p) (end-on p)), start p .pre .1)
+
+clear-told : (c : tie.After-clear-of) → c .clear-of .result ≡ isClear _ _ (start (c .before .before) .args .z) _ (read (c .before .before))
+clear-told c =
+    let m = read (c .before .before) in
+    c .clear-of .ensures ∙ (λ d. clearOf (m .row) (m .start) (c .before .direction .ensures d) (start (c .before .before) .args .z))
+
+crosses-requires : tie.Need-crosses-requires
+crosses-requires c κs = let p = c .before .before .before in (start p .pre .1, start-on p, end-on p)
+
+returns-2 : tie.Need-returns-2
+returns-2 c =
+    let k = c .before .before in
+    let p = k .before .before in
+    (visit-clear _ _ (start p .args .z) _ (read p) _ (sym (clear-told k) ∙ c .before .if2 .taken) (c .crosses .ensures), tt)
+
+-- ---------------- a leaf
+add-if3 : tie.Need-add-if3
+add-if3 c = search needs
+
+test-leaf-requires : tie.Need-test-leaf-requires
+test-leaf-requires c κs = let p = c .before .before .before .before in (start p .pre .1, start-on p, end-on p)
+
+returns-3 : tie.Need-returns-3
+returns-3 c =
+    let k = c .before .before .before in
+    let p = k .before .before in
+    visit-leaf _ _ (start p .args .z) _ (read p) _ (sym (clear-told k) ∙ c .before .before .if2 .left) (le-leb _ _ (c .before .if3 .taken)) (c .test-leaf .ensures)
+
+-- ---------------- a split
+-- as it is cast
+split-held : (c : tie.After-struct-told) → toZ w64 (ofZ w64 (read (c .before .before .before .before .before .before) .row .split)) ≡ read (c .before .before .before .before .before .before) .row .split
+split-held c = held _ (c .struct-told .given .1 .1 .0 .1)
+
+cast-halve : tie.Need-cast-halve
+cast-halve c =
+    let p = c .before .before .before .before .before .before in
+    nat-cast {w = w64} {w′ = w64} (record { sfits = c .struct-told .given .1 .1 .0 .1 }) tt (split-held c) (split-above _ _ _ _ (T-true (read p .fine)) (c .before .before .if3 .left))
+
+halve-requires : tie.Need-halve-requires
+halve-requires c κs =
+    let p = c .before .before .before .before .before .before in
+    let s = start p .pre .0 in
+    (omega (arith, s .points-in), row-small s, omega (arith, s .points-in, s .fine .not-more), rw (split-held c) (good-row p .split-between (c .before .before .if3 .left)))
+
+returns-4 : tie.Need-returns-4
+returns-4 c =
+    let e = c .before .before .before in
+    let k = e .before .before in
+    let p = k .before .before in
+    let opened = visit-open _ _ (start p .args .z) _ (read p) _ (sym (clear-told k) ∙ e .before .if2 .left) (lt-leb _ _ (e .if3 .left)) (ap natAbs (split-held (c .before))) in
+    (c .halve .ensures .0 ∙ opened, c .halve .ensures .1)
+
+pub visit-spec : {M : Type 1} → statement M
+visit-spec =
+    tie.close
+    (tie.spec
+    row-at-requires
+    row-good-requires
+    returns
+    point-at-requires
+    point-at-requires-2
+    direction-requires
+    clear-of-requires
+    crosses-requires
+    returns-2
+    add-if3
+    test-leaf-requires
+    returns-3
+    cast-halve
+    halve-requires
+    returns-4)

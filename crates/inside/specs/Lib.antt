@@ -1,0 +1,3 @@
+-- What the contracts of `inside` are said with.
+pub mod Fine
+pub mod Said

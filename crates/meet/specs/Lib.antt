@@ -1,0 +1,5 @@
+-- What the contracts of `meet` are said with.
+pub mod Fine
+pub mod Pairs
+pub mod Corners
+pub mod Said

@@ -1,0 +1,51 @@
+-- What the functions of `meet` may count on: nodes that lie inside their lines and tables, and sizes for which the machine's
+-- arithmetic is exact.
+use mathlib.Core.List.{List}
+use Prim.Native.Nat.{ℕ, _+_, _*_, _≤_, _<_}
+use lib.Dec.{T}
+use lib.IntN.{ℤ}
+use lib.ListN.{length}
+use Rattle.whole.specs.Range.{Abs≤}
+use Rattle.rules.specs.declared.Node.{Node}
+use Rattle.rules.specs.declared.Pair.{Pair}
+use Rattle.rules.specs.declared.Point.{Point}
+use Rattle.rules.specs.declared.Row.{Row}
+use Rattle.rules.specs.Sheet.{limit}
+use Rattle.rules.specs.Rows.{good}
+use Rattle.line.specs.Small.{OnSheet, Small}
+use Rattle.meet.specs.Fine.{Stands}
+
+-- ---------------- sizes
+-- the box of a row is on the sheet
+pub record BoxOnSheet (r : Row) : Type 0 where
+  pub xmin-in : Abs≤ limit (r .xmin)
+  pub xmax-in : Abs≤ limit (r .xmax)
+  pub ymin-in : Abs≤ limit (r .ymin)
+  pub ymax-in : Abs≤ limit (r .ymax)
+
+-- a node's row, its first point and its heading
+pub record Placed (r : Row) (s u : Point) : Type 0 where
+  pub start-on : OnSheet s
+  pub heading-small : Small u
+  pub box-on : BoxOnSheet r
+
+-- ---------------- nodes
+-- each node of a pair stands in its line and table
+pub record PairStands (ps t qs t′ : List ℤ) (n : Pair) : Type 0 where
+  pub a-stands : Stands ps t (n .a)
+  pub b-stands : Stands qs t′ (n .b)
+
+-- a node's row was read, and is good
+pub record Read (ps : List ℤ) (r : Row) (n : Node) : Type 0 where
+  pub some-segment : n .first < n .last
+  pub few-points : n .last < 4097
+  pub in-line : 2 * (n .last) + 1 < length ps
+  pub few-rows : n .row < 8193
+  pub row-good : T (good ps r (n .first) (n .last))
+
+-- a node is split at an inner point
+pub record Inner (ps : List ℤ) (n : Node) (split : ℕ) : Type 0 where
+  pub some-points : 4 ≤ length ps
+  pub low : n .first < split
+  pub high : split < 4097
+  pub few-rows : n .row < 8193

@@ -1,0 +1,75 @@
+// Whether two segments share a point, ends, touches and overlaps included.
+use line::c_at;
+use rules::Point;
+ghost use mathlib.Core.Path.{_≡_};
+ghost use Rattle.whole.specs.Order.{minZ, maxZ};
+ghost use Rattle.rules.specs.Plane.{step};
+ghost use Rattle.rules.specs.Plain.{rangesOverlap, boxesOverlap, oneSide, share};
+ghost use Rattle.line.specs.Small.{OnSheet};
+ghost use Rattle.meet.specs.Said.{bothAside};
+
+fn lesser(a: i64, b: i64) -> i64
+    ensures { λ r. ⌜ r ≡ minZ a b ⌝ }
+{
+    if a < b { a } else { b }
+}
+
+fn greater(a: i64, b: i64) -> i64
+    ensures { λ r. ⌜ r ≡ maxZ a b ⌝ }
+{
+    if a < b { b } else { a }
+}
+
+fn ranges_overlap(a: i64, b: i64, c: i64, d: i64) -> bool
+    ensures { λ r. ⌜ r ≡ rangesOverlap a b c d ⌝ }
+{
+    lesser(a, b) <= greater(c, d) && lesser(c, d) <= greater(a, b)
+}
+
+fn boxes_overlap(a: Point, b: Point, c: Point, d: Point) -> bool
+    ensures { λ r. ⌜ r ≡ boxesOverlap a b c d ⌝ }
+{
+    ranges_overlap(a.x, b.x, c.x, d.x) && ranges_overlap(a.y, b.y, c.y, d.y)
+}
+
+// Whether two values of c are both above 0, or both below 0.
+fn one_side(p: i64, q: i64) -> bool
+    ensures { λ r. ⌜ r ≡ oneSide p q ⌝ }
+{
+    if 0 < p {
+        return 0 < q;
+    }
+    p < 0 && q < 0
+}
+
+fn step(a: Point, b: Point) -> Point
+    requires { ⌜ OnSheet a × OnSheet b ⌝ }
+    ensures { λ r. ⌜ r ≡ step a b ⌝ }
+{
+    Point {
+        x: b.x - a.x,
+        y: b.y - a.y,
+    }
+}
+
+// Whether c and d lie on one side of the line through a and b.
+fn both_aside(a: Point, b: Point, c: Point, d: Point) -> bool
+    requires { ⌜ OnSheet a × OnSheet b × OnSheet c × OnSheet d ⌝ }
+    ensures { λ r. ⌜ r ≡ bothAside a b c d ⌝ }
+{
+    let u = step(a, b);
+    one_side(c_at(a, u, c), c_at(a, u, d))
+}
+
+pub fn share(a: Point, b: Point, c: Point, d: Point) -> bool
+    requires { ⌜ OnSheet a × OnSheet b × OnSheet c × OnSheet d ⌝ }
+    ensures { λ r. ⌜ r ≡ share a b c d ⌝ }
+{
+    if !boxes_overlap(a, b, c, d) {
+        return false;
+    }
+    if both_aside(a, b, c, d) {
+        return false;
+    }
+    !both_aside(c, d, a, b)
+}
