@@ -3,7 +3,7 @@ use mathlib.Core.Path.{_≡_, refl, _∙_, ap}
 use mathlib.Core.Bool.{Bool, true, false, cond}
 use mathlib.Core.List.{List, [], _∷_, _++_}
 use mathlib.Core.Option.{Option, none, some}
-use Prim.Native.Nat.{ℕ, _*_, _%_}
+use Prim.Native.Nat.{_*_, _%_}
 use native.Mathlib.Omega.{arith}
 use borrow.Author.Tests.{ltb-false, eqb-false}
 use lib.IntN.{ℤ}
@@ -14,6 +14,7 @@ use Rattle.rules.specs.Sheet.{pointsOf, segmentsOf, fewest, most}
 use Rattle.rules.specs.Tree.{width, rowCount}
 use Rattle.rules.specs.Reply.{Check, early, firstRefusal}
 use Rattle.rules.specs.Rows.{lengthChecks}
+use Rattle.visits.proofs.Checks.{none-clear}
 use Rattle.near.specs.Fine.{LengthsFine}
 
 -- what one option says, or else the other
@@ -22,20 +23,6 @@ orElse none r = r
 orElse (some a) r = some a
 
 -- ---------------- checks in a row: the first that holds refuses
--- no check of the list holds
-abbrev pub NoneHolds : List Check → Type 0
-NoneHolds [] = Unit {0}
-NoneHolds (k ∷ ks) = (k .holds ≡ false) × NoneHolds ks
-
--- where a list of checks refuses nothing, none of them holds
-pub none-holds : (ks : List Check) → firstRefusal ks ≡ none → NoneHolds ks
-none-holds [] e = tt
-none-holds (k ∷ ks) e = go (k .holds) refl e (none-holds ks)
-  where
-    go : (b : Bool) → k .holds ≡ b → cond b (some (early k)) (firstRefusal ks) ≡ none → (firstRefusal ks ≡ none → NoneHolds ks) → NoneHolds (k ∷ ks)
-    go true q e ih = absurd (let z : _≡_ {A = ℕ} 0 1 = cc in omega arith)
-    go false q e ih = (q, ih e)
-
 -- two lists of checks in a row refuse what the first does, and else what the second does
 pub first-append : (ks ls : List Check) → firstRefusal (ks ++ ls) ≡ orElse (firstRefusal ks) (firstRefusal ls)
 first-append [] ls = refl
@@ -48,7 +35,7 @@ first-append (k ∷ ks) ls = ap (λ (r : Option Refusal). cond (k .holds) (some 
 -- ---------------- where refusals 1, 2, 3 and 6 did not come, the lengths are fine
 pub lengths-fine : (l : Line) (ps t : List ℤ) → firstRefusal (lengthChecks l ps t) ≡ none → LengthsFine ps t
 lengths-fine l ps t e =
-    let h = none-holds (lengthChecks l ps t) e in
+    let h = none-clear (lengthChecks l ps t) e in
     let odd = eqb-false (length ps % 2) 1 (h .0) in
     record {
       some-points = ltb-false (pointsOf ps) fewest (h .1 .0);

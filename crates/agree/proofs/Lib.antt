@@ -1,0 +1,3 @@
+-- Laws that the proofs of `agree` share.
+pub mod Points
+pub mod Replies

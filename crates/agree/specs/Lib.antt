@@ -1,0 +1,2 @@
+-- What the contracts of `agree` are said with.
+pub mod Said
