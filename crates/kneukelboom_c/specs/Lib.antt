@@ -1,0 +1,2 @@
+-- What the C interface says in numbers.
+pub mod Codes
