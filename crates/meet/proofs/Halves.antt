@@ -3,10 +3,9 @@ use mathlib.Core.Bool.{_&&_, _||_}
 use mathlib.Core.List.{List}
 use Prim.Native.Nat.{ℕ, _<_}
 use native.Mathlib.Omega.{arith}
-use lib.Dec.{T, T-not, leb, leb→le, nleb→lt}
+use lib.Dec.{T, leb, leb→le, nleb→lt}
 use lib.IntN.{ℤ}
 use Rattle.whole.specs.Laws.{cond-ind}
-use Rattle.whole.specs.Order.{no-T}
 use Rattle.rules.specs.declared.Pair.{Pair}
 use Rattle.rules.specs.declared.Row.{Row}
 use Rattle.rules.specs.Plain.{share}
@@ -15,10 +14,10 @@ use Rattle.rules.specs.Tree.{rowAt, rowCount}
 use Rattle.rules.specs.Rows.{good}
 use Rattle.rules.specs.Walk.{Visit, refuse, finish, pass, halve}
 use Rattle.rules.specs.Questions.{Nothing, leaf, size, leftOf, rightOf, splitIn, startOf, endOf, headingOf, apart, meetVisit}
-use Rattle.visits.proofs.Nodes.{good-read}
+use Rattle.visits.proofs.Nodes.{good-read, larger-opens}
 use Rattle.meet.specs.Pairs.{PairStands}
 use Rattle.meet.specs.Said.{segments, openedA, openedB, compared}
-use Rattle.meet.proofs.Opens.{a-inner, b-inner}
+use Rattle.meet.proofs.Opens.{other-opens}
 use Rattle.meet.proofs.Places.{left-stands, right-stands}
 
 module _ (ps t qs t′ : List ℤ) (n : Pair) where
@@ -54,10 +53,9 @@ module _ (ps t qs t′ : List ℤ) (n : Pair) where
         cond-ind (apart r (startOf ps (n .a)) (headingOf ps (n .a)) q (startOf qs (n .b)) (headingOf qs (n .b))) _ _ Halves (λ _. tt)
         (λ _. cond-ind (leaf (n .a) && leaf (n .b)) _ _ Halves
         (λ _. cond-ind (share (startOf ps (n .a)) (endOf ps (n .a)) (startOf qs (n .b)) (endOf qs (n .b))) _ _ Halves (λ _. tt) (λ _. tt))
-        (λ u. let e = no-T (leaf (n .a) && leaf (n .b)) (T-not (leaf (n .a) && leaf (n .b)) u) in
-        cond-ind (leb (size (n .b)) (size (n .a))) _ _ Halves
-        (λ k. let b = good-read ps r (n .a .first) (n .a .last) g .split-between (a-inner (n .a) (n .b) e (leb→le _ _ k)) in halves-a (splitIn r) (b .0) (b .1))
-        (λ k. let b = good-read qs q (n .b .first) (n .b .last) g′ .split-between (b-inner (n .a) (n .b) e (nleb→lt _ _ k)) in halves-b (splitIn q) (b .0) (b .1))))
+        (λ u. cond-ind (leb (size (n .b)) (size (n .a))) _ _ Halves
+        (λ k. let b = good-read ps r (n .a .first) (n .a .last) g .split-between (larger-opens (n .a) (n .b) u (leb→le _ _ k)) in halves-a (splitIn r) (b .0) (b .1))
+        (λ k. let b = good-read qs q (n .b .first) (n .b .last) g′ .split-between (other-opens (n .a) (n .b) u (nleb→lt _ _ k)) in halves-b (splitIn q) (b .0) (b .1))))
 
     pub visit-halves : Halves (meetVisit ps t qs t′ n)
     unfolding meetVisit

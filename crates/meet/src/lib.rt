@@ -24,7 +24,7 @@ use rules::Tally;
 use segments::share;
 use strips::apart;
 ghost use mathlib.Core.Path.{_≡_};
-ghost use mathlib.Core.Bool.{false, _&&_};
+ghost use mathlib.Core.Bool.{not, _&&_};
 ghost use Prim.Native.Nat.{ℕ, _+_, _<_, _≤_};
 ghost use lib.Dec.{T};
 ghost use lib.ListN.{length};
@@ -108,7 +108,7 @@ fn open_b(points: &[i32], pair: Pair, split: usize) -> Step
 // The node with more segments splits, A on a tie.
 fn open_larger(points_a: &[i32], r: Row, points_b: &[i32], q: Row, pair: Pair) -> Step
     requires { ⌜ Read (now «points_a») r (pair .a) × Read (now «points_b») q (pair .b) ⌝ }
-    requires { ⌜ leaf (pair .a) && leaf (pair .b) ≡ false ⌝ }
+    requires { ⌜ T (not (leaf (pair .a) && leaf (pair .b))) ⌝ }
     ensures { λ s. ⌜ stepVisit s ≡ opened (now («points_a» .entry)) r (now («points_b» .entry)) q pair ⌝ }
 {
     let a = pair.a;

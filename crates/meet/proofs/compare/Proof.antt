@@ -2,6 +2,7 @@
 -- row puts them, the headings and the boxes where arithmetic is exact.
 use mathlib.Core.Path.{_≡_, sym, _∙_, subst, subst₂}
 use mathlib.Core.Bool.{Bool, cond, _&&_}
+use Rattle.whole.specs.Order.{T-false}
 use Rattle.rules.specs.declared.Point.{Point}
 use Rattle.rules.specs.declared.Row.{Row}
 use Rattle.rules.specs.Plane.{direction}
@@ -88,7 +89,7 @@ returns-2 c =
     ∙ sym (λ i. cond (far i) (pass (λ k. k)) (cond (leaves i) (tested (startOf p (n .a)) (endOf p (n .a)) (startOf q (n .b)) (endOf q (n .b))) (opened p (c .before .before .before .before .before .before .before .before .before .before .before .before .before .args .r) q (c .before .before .before .before .before .before .before .before .before .before .before .before .before .args .q) n)))
 
 open-larger-requires : tie.Need-open-larger-requires
-open-larger-requires c κs = (c .before .before .before .before .before .before .before .before .before .before .before .before .pre, sym (c .before .both-leaves .ensures) ∙ c .if2 .left)
+open-larger-requires c κs = (c .before .before .before .before .before .before .before .before .before .before .before .before .pre, T-false (sym (c .before .both-leaves .ensures) ∙ c .if2 .left))
 
 returns-3 : tie.Need-returns-3
 returns-3 c =

@@ -3,9 +3,10 @@ use mathlib.Core.Path.{sym, _∙_}
 use mathlib.Core.Bool.{cond}
 use borrow.Author.Tests.{le-leb, lt-leb}
 use Rattle.rules.specs.Questions.{size, splitIn}
+use Rattle.visits.proofs.Nodes.{larger-opens}
 use Rattle.meet.specs.Said.{openedA, openedB}
 use Rattle.meet.proofs.GoodRows.{split-good, splits-inside}
-use Rattle.meet.proofs.Opens.{a-inner, b-inner}
+use Rattle.meet.proofs.Opens.{other-opens}
 use borrow.Author.Needs.{needs}
 use Rattle.meet.proofs.open_larger.Statement.{statement}
 use Rattle.meet.proofs.open_larger.Tie as tie
@@ -19,12 +20,12 @@ sub-if1-2 c = search needs
 split-of-requires : tie.Need-split-of-requires
 split-of-requires c κs =
     let p = c .before .before .before .before .before .pre in
-    let n = c .before .before .before .before .before .args .pair in (a-inner (n .a) (n .b) (p .1) (c .if1 .taken), split-good (p .0 .0))
+    let n = c .before .before .before .before .before .args .pair in (larger-opens (n .a) (n .b) (p .1) (c .if1 .taken), split-good (p .0 .0))
 
 open-a-requires : tie.Need-open-a-requires
 open-a-requires c κs =
     let p = c .before .before .before .before .before .before .pre in
-    let n = c .before .before .before .before .before .before .args .pair in splits-inside (p .0 .0) (a-inner (n .a) (n .b) (p .1) (c .before .if1 .taken)) (c .split-of .ensures)
+    let n = c .before .before .before .before .before .before .args .pair in splits-inside (p .0 .0) (larger-opens (n .a) (n .b) (p .1) (c .before .if1 .taken)) (c .split-of .ensures)
 
 returns : tie.Need-returns
 returns c =
@@ -38,12 +39,12 @@ returns c =
 split-of-requires-2 : tie.Need-split-of-requires-2
 split-of-requires-2 c κs =
     let p = c .before .before .before .before .before .pre in
-    let n = c .before .before .before .before .before .args .pair in (b-inner (n .a) (n .b) (p .1) (c .if1 .left), split-good (p .0 .1))
+    let n = c .before .before .before .before .before .args .pair in (other-opens (n .a) (n .b) (p .1) (c .if1 .left), split-good (p .0 .1))
 
 open-b-requires : tie.Need-open-b-requires
 open-b-requires c κs =
     let p = c .before .before .before .before .before .before .pre in
-    let n = c .before .before .before .before .before .before .args .pair in splits-inside (p .0 .1) (b-inner (n .a) (n .b) (p .1) (c .before .if1 .left)) (c .split-of2 .ensures)
+    let n = c .before .before .before .before .before .before .args .pair in splits-inside (p .0 .1) (other-opens (n .a) (n .b) (p .1) (c .before .if1 .left)) (c .split-of2 .ensures)
 
 returns-2 : tie.Need-returns-2
 returns-2 c =

@@ -7,13 +7,13 @@ use mir.Syntax.{w64}
 use mir.Val.{toZ, ofZ}
 use Rattle.whole.specs.Range.{Abs≤}
 use Rattle.rules.specs.Sheet.{limit}
-use Rattle.meet.proofs.Sizes.{reads-back}
+use Rattle.meet.proofs.Sizes.{stored}
 use Rattle.meet.proofs.strips.boxes_apart.Statement.{statement}
 use Rattle.meet.proofs.strips.boxes_apart.Tie as tie
 
 -- a test of two numbers on the sheet is that of the numbers
 read : {x y : ℤ} → Abs≤ limit x → Abs≤ limit y → ltZ (toZ w64 (ofZ w64 x)) (toZ w64 (ofZ w64 y)) ≡ ltZ x y
-read h k i = ltZ (reads-back h i) (reads-back k i)
+read h k i = ltZ (stored h tt i) (stored k tt i)
 
 returns : tie.Need-returns
 returns c =
