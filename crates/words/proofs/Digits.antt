@@ -8,14 +8,15 @@ use native.Mathlib.Nat.{le-refl, lt-of-lt-of-le, mul-le-mul-right, mul-assoc, po
 use native.Mathlib.Numerals.{add-one}
 use native.Mathlib.Omega.{arith}
 use borrow.Author.Tests.{leb-true, eq-eqb, ne-eqb}
-use lib.Dec.{T, eqb, leb}
+use lib.Dec.{T, eqb, leb, ltb}
 use lib.IntN.{ℤ, pos, negsuc, negℤ, natAbs}
 use lib.ListN.{length, getD, drop, drop-of-length-le}
 use lib.Seq.{drop-cons}
 use lib.Signed.{nonNeg}
-use Rattle.words.specs.Numerals.{isDigit, allDigits, valueFrom, goodDigits, minus, when, tailOf, numeral, onlyIf, fitsI32, fitsU32, coordinate, allowance}
 use mir.Syntax.{w32}
 use mir.Val.{Fits, SFits}
+use Rattle.words.specs.Numerals.{isDigit, allDigits, valueFrom, goodDigits, minus, when, tailOf, numeral, onlyIf, fitsI32, fitsU32, coordinate, allowance}
+use Rattle.words.specs.Said.{negated}
 
 -- byte i, and those after it
 pub digit-at : (l : List ℕ) (i : ℕ) → i < length l → allDigits (drop i l) ≡ isDigit (getD l i 0) && allDigits (drop (i + 1) l)
@@ -81,25 +82,26 @@ good-value ds e =
     let most : 10 ^ length ds ≤ 10 ^ 10 = pow-le-pow-right (omega arith) (g .few) in
     omega arith
 
--- good digits, of its tests
-abbrev pub goodSays : Bool → Bool → Bool → Bool → Bool → Bool
-goodSays one few all more nought = one && few && all && not (more && nought)
+-- what the tests come to
+pub good-tests : (f : List ℕ) {one few all more : Bool} → leb 1 (length f) ≡ one → leb (length f) 10 ≡ few → allDigits f ≡ all → ltb 1 (length f) ≡ more → goodDigits f ≡ one && few && all && not (more && eqb (getD f 0 0) 48)
+good-tests f p q r t = λ d. p d && q d && r d && not (t d && eqb (getD f 0 0) 48)
 
 -- ---- with and without a minus
 
+-- no bytes are no number
 pub no-bytes : (f : List ℕ) → length f < 1 → numeral f ≡ none
 unfolding numeral
 no-bytes [] h = refl
 no-bytes (b ∷ bs) h = absurd (omega arith)
 
+-- without a minus, good digits are a number
 pub no-minus : (f : List ℕ) → (getD f 0 0 ≡ minus → ⊥) → numeral f ≡ when (goodDigits f) (pos (valueFrom 0 f))
 unfolding numeral
-no-minus f n = λ d. cond (ne-eqb (getD f 0 0) minus n d) (when (goodDigits (tailOf f) && not (eqb (getD f 1 0) 48)) (negℤ (pos (valueFrom 0 (tailOf f))))) (when (goodDigits f) (pos (valueFrom 0 f)))
+no-minus f n =
+    λ d. cond (ne-eqb (getD f 0 0) minus n d) (when (goodDigits (tailOf f) && not (eqb (getD f 1 0) 48)) (negℤ (pos (valueFrom 0 (tailOf f)))))
+    (when (goodDigits f) (pos (valueFrom 0 f)))
 
--- what stands after a minus
-abbrev pub negated : List ℕ → Option ℤ
-negated ds = when (goodDigits ds && not (eqb (getD ds 0 0) 48)) (negℤ (pos (valueFrom 0 ds)))
-
+-- a minus, and what follows it
 pub at-minus : (f : List ℕ) → getD f 0 0 ≡ minus → numeral f ≡ negated (drop 1 f)
 unfolding numeral
 at-minus [] e = absurd (omega arith)
@@ -116,6 +118,7 @@ kept p (some y) z e = go (p y) refl e
     go true q k = cc
     go false q k = cc
 
+-- what fits by its test fits the machine's 32 bits
 fits-i32 : (z : ℤ) → fitsI32 z ≡ true → SFits w32 z
 fits-i32 (pos n) e = let h = leb-true n 2147483647 e in record { sfits = omega arith }
 fits-i32 (negsuc n) e = let h = leb-true n 2147483647 (sym (and-true (leb n 2147483647)) ∙ e) in record { sfits = omega arith }

@@ -2,16 +2,16 @@
 // every list of bytes; the functions below it say their results by the definitions of `specs/`.
 use rules::Line;
 ghost use mathlib.Core.Path.{_≡_};
-ghost use mathlib.Core.Bool.{true, not, _&&_};
+ghost use mathlib.Core.Bool.{true, _&&_};
 ghost use Prim.Native.Nat.{_≤_, _<_};
 ghost use lib.Dec.{eqb};
 ghost use lib.IntN.{negℤ, pos};
-ghost use lib.ListN.{length, getD};
+ghost use lib.ListN.{length};
 ghost use lib.Signed.{leZ};
 ghost use Rattle.words.specs.Fields.{fields, sameBytes};
-ghost use Rattle.words.specs.Numerals.{isDigit, allDigits, valueFrom, goodDigits, when, numeral, onlyIf};
+ghost use Rattle.words.specs.Numerals.{isDigit, allDigits, valueFrom, goodDigits, numeral, onlyIf};
 ghost use Rattle.words.specs.Records.{field, lineNamed, recordOf};
-ghost use Rattle.words.specs.Said.{numberSaid, coordSaid, visitsSaid, coordinateAt, allowanceAt, ptOf, nearOf, inOf, meetOf, agreeOf};
+ghost use Rattle.words.specs.Said.{numberSaid, coordSaid, visitsSaid, negated, coordinateAt, allowanceAt, ptIn, nearIn, inIn, meetIn, agreeIn};
 
 // A text line, read.
 pub enum Record {
@@ -184,7 +184,7 @@ fn minus(v: u64) -> i64
 
 // What follows a minus.
 fn negative(f: &[u8]) -> Number
-    ensures { λ r. ⌜ numberSaid r ≡ when (goodDigits (now (f .entry)) && not (eqb (getD (now (f .entry)) 0 0) 48)) (negℤ (pos (valueFrom 0 (now (f .entry))))) ⌝ }
+    ensures { λ r. ⌜ numberSaid r ≡ negated (now (f .entry)) ⌝ }
 {
     if !good_digits(f) {
         return Number::Nothing;
@@ -262,7 +262,7 @@ fn line_named(f: &[u8]) -> Record
 }
 
 fn pt(text: &[u8]) -> Record
-    ensures { λ r. ⌜ r ≡ ptOf (coordinateAt (now (text .entry)) 1) (coordinateAt (now (text .entry)) 2) ⌝ }
+    ensures { λ r. ⌜ r ≡ ptIn (now (text .entry)) ⌝ }
 {
     let Coord::At(x) = coordinate(text, 1) else {
         return Record::NotUnderstood;
@@ -274,7 +274,7 @@ fn pt(text: &[u8]) -> Record
 }
 
 fn near(text: &[u8]) -> Record
-    ensures { λ r. ⌜ r ≡ nearOf (coordinateAt (now (text .entry)) 1) (coordinateAt (now (text .entry)) 2) (coordinateAt (now (text .entry)) 3) (allowanceAt (now (text .entry)) 4) ⌝ }
+    ensures { λ r. ⌜ r ≡ nearIn (now (text .entry)) ⌝ }
 {
     let Coord::At(x) = coordinate(text, 1) else {
         return Record::NotUnderstood;
@@ -297,7 +297,7 @@ fn near(text: &[u8]) -> Record
 }
 
 fn inside(text: &[u8]) -> Record
-    ensures { λ r. ⌜ r ≡ inOf (coordinateAt (now (text .entry)) 1) (coordinateAt (now (text .entry)) 2) (allowanceAt (now (text .entry)) 3) ⌝ }
+    ensures { λ r. ⌜ r ≡ inIn (now (text .entry)) ⌝ }
 {
     let Coord::At(x) = coordinate(text, 1) else {
         return Record::NotUnderstood;
@@ -312,7 +312,7 @@ fn inside(text: &[u8]) -> Record
 }
 
 fn meet(text: &[u8]) -> Record
-    ensures { λ r. ⌜ r ≡ meetOf (allowanceAt (now (text .entry)) 1) ⌝ }
+    ensures { λ r. ⌜ r ≡ meetIn (now (text .entry)) ⌝ }
 {
     let Visits::AtMost(allowance) = allowance(text, 1) else {
         return Record::NotUnderstood;
@@ -321,7 +321,7 @@ fn meet(text: &[u8]) -> Record
 }
 
 fn agree(text: &[u8]) -> Record
-    ensures { λ r. ⌜ r ≡ agreeOf (coordinateAt (now (text .entry)) 1) (allowanceAt (now (text .entry)) 2) ⌝ }
+    ensures { λ r. ⌜ r ≡ agreeIn (now (text .entry)) ⌝ }
 {
     let Coord::At(distance) = coordinate(text, 1) else {
         return Record::NotUnderstood;

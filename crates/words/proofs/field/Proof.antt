@@ -78,7 +78,7 @@ returns-2 c =
     let at = c .before .before .before in
     let rest = at .loop .rest .now in
     let none-left : at .loop .left ≡ 0 = omega arith in
-    (λ d. take (end .ensures .1 d) rest) ∙ first-field rest .1 ∙ sym (at .loop .inv .1 ∙ (λ d. field (fields rest) (none-left d)))
+    (λ d. take (end .ensures .1 d) rest) ∙ first-field rest ∙ sym (at .loop .inv .1 ∙ (λ d. field (fields rest) (none-left d)))
 
 pub field-spec : {M : Type 1} → statement M
 field-spec =

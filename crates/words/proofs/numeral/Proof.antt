@@ -7,8 +7,9 @@ use lib.IntN.{pos}
 use mir.Syntax.{w64}
 use mir.Facts.{toZ-ofZ}
 use Rattle.words.specs.Numerals.{valueFrom, when}
+use Rattle.words.specs.Said.{negated}
 use Rattle.words.proofs.Fields.{part-from}
-use Rattle.words.proofs.Digits.{no-bytes, no-minus, at-minus, negated}
+use Rattle.words.proofs.Digits.{no-bytes, no-minus, at-minus}
 use Rattle.words.proofs.numeral.Statement.{statement}
 use Rattle.words.proofs.numeral.Tie as tie
 

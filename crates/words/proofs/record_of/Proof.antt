@@ -1,14 +1,14 @@
 -- `record_of` asks for the words in their order; each that a text line does not begin with leaves the next to ask.
 use mathlib.Core.Path.{_≡_, sym, ap, _∙_}
-use mathlib.Core.Bool.{cond}
+use mathlib.Core.Bool.{Bool, _&&_}
 use mathlib.Core.List.{List}
 use Prim.Native.Nat.{ℕ}
 use borrow.Author.Needs.{needs}
-use Rattle.words.specs.declared.Record.the-variants.{NotUnderstood}
-use Rattle.words.specs.Fields.{fields}
-use Rattle.words.specs.Records.{LINE, PT, NEAR, IN, MEET, AGREE, field, is, lineNamed, recordOf}
-use Rattle.words.specs.Said.{coordinateAt, allowanceAt, ptOf, nearOf, inOf, meetOf, agreeOf}
-use Rattle.words.proofs.Records.{fromLine, fromPt, fromNear, fromIn, fromMeet, fromAgree, short, long, asked}
+use denote.Ref.{now}
+use lib.Dec.{eqb}
+use Rattle.words.specs.Fields.{fields, sameBytes}
+use Rattle.words.specs.Records.{LINE, PT, NEAR, IN, MEET, AGREE, is, lineNamed, recordOf}
+use Rattle.words.proofs.Records.{fromLine, fromPt, fromNear, fromIn, fromMeet, fromAgree, short, long, word-is, word-is-not}
 use Rattle.words.proofs.record_of.Statement.{statement}
 use Rattle.words.proofs.record_of.Tie as tie
 
@@ -16,6 +16,11 @@ use Rattle.words.proofs.record_of.Tie as tie
 abbrev text-of : tie.After-field → List ℕ
 text-of f = f .before .before .before .before .args .text .now
 
+-- a test of the count and the first field is the definition's
+asked : (f : tie.After-field) (word : List ℕ) (n : ℕ) (r : Bool) → r ≡ (eqb (f .before .field-count .result) n && sameBytes (now (f .field .result)) word) → is (fields (text-of f)) word n ≡ r
+asked f word n r e = sym (e ∙ (λ d. eqb (f .before .field-count .ensures d) n && sameBytes (f .field .ensures d) word))
+
+-- what is left to ask after each word that is not the first field; and, where a word is asked for, what the answer says
 left-line : (f : tie.After-field) → recordOf (text-of f) ≡ fromLine (text-of f)
 left-line f = short (text-of f) (f .before .before .if1 .left)
 
@@ -23,62 +28,52 @@ abbrev at-line : tie.After-is → tie.After-field
 at-line c = c .before .before
 
 is-line : (c : tie.After-is) → is (fields (text-of (at-line c))) LINE 2 ≡ c .is .result
-is-line c = asked (text-of (at-line c)) _ LINE _ 2 _ (at-line c .before .field-count .ensures) (at-line c .field .ensures) (c .is .ensures)
+is-line c = asked (at-line c) LINE 2 _ (c .is .ensures)
 
 left-pt : (c : tie.Else2) → recordOf (text-of (at-line (c .before))) ≡ fromPt (text-of (at-line (c .before)))
-left-pt c =
-    let text = text-of (at-line (c .before)) in
-    left-line (at-line (c .before)) ∙ (λ d. cond ((is-line (c .before) ∙ c .if2 .left) d) (lineNamed (field (fields text) 1)) (fromPt text))
+left-pt c = left-line (at-line (c .before)) ∙ word-is-not _ _ (is-line (c .before) ∙ c .if2 .left)
 
 abbrev at-pt : tie.After-is2 → tie.After-field
 at-pt c = at-line (c .before .before .before)
 
 is-pt : (c : tie.After-is2) → is (fields (text-of (at-pt c))) PT 3 ≡ c .is2 .result
-is-pt c = asked (text-of (at-pt c)) _ PT _ 3 _ (at-pt c .before .field-count .ensures) (at-pt c .field .ensures) (c .is2 .ensures)
+is-pt c = asked (at-pt c) PT 3 _ (c .is2 .ensures)
 
 left-near : (c : tie.Else3) → recordOf (text-of (at-pt (c .before))) ≡ fromNear (text-of (at-pt (c .before)))
-left-near c =
-    let text = text-of (at-pt (c .before)) in
-    left-pt (c .before .before .before) ∙ (λ d. cond ((is-pt (c .before) ∙ c .if3 .left) d) (ptOf (coordinateAt text 1) (coordinateAt text 2)) (fromNear text))
+left-near c = left-pt (c .before .before .before) ∙ word-is-not _ _ (is-pt (c .before) ∙ c .if3 .left)
 
 abbrev at-near : tie.After-is3 → tie.After-field
 at-near c = at-pt (c .before .before .before)
 
 is-near : (c : tie.After-is3) → is (fields (text-of (at-near c))) NEAR 5 ≡ c .is3 .result
-is-near c = asked (text-of (at-near c)) _ NEAR _ 5 _ (at-near c .before .field-count .ensures) (at-near c .field .ensures) (c .is3 .ensures)
+is-near c = asked (at-near c) NEAR 5 _ (c .is3 .ensures)
 
 left-in : (c : tie.Else4) → recordOf (text-of (at-near (c .before))) ≡ fromIn (text-of (at-near (c .before)))
-left-in c =
-    let text = text-of (at-near (c .before)) in
-    left-near (c .before .before .before) ∙ (λ d. cond ((is-near (c .before) ∙ c .if4 .left) d) (nearOf (coordinateAt text 1) (coordinateAt text 2) (coordinateAt text 3) (allowanceAt text 4)) (fromIn text))
+left-in c = left-near (c .before .before .before) ∙ word-is-not _ _ (is-near (c .before) ∙ c .if4 .left)
 
 abbrev at-in : tie.After-is4 → tie.After-field
 at-in c = at-near (c .before .before .before)
 
 is-in : (c : tie.After-is4) → is (fields (text-of (at-in c))) IN 4 ≡ c .is4 .result
-is-in c = asked (text-of (at-in c)) _ IN _ 4 _ (at-in c .before .field-count .ensures) (at-in c .field .ensures) (c .is4 .ensures)
+is-in c = asked (at-in c) IN 4 _ (c .is4 .ensures)
 
 left-meet : (c : tie.Else5) → recordOf (text-of (at-in (c .before))) ≡ fromMeet (text-of (at-in (c .before)))
-left-meet c =
-    let text = text-of (at-in (c .before)) in
-    left-in (c .before .before .before) ∙ (λ d. cond ((is-in (c .before) ∙ c .if5 .left) d) (inOf (coordinateAt text 1) (coordinateAt text 2) (allowanceAt text 3)) (fromMeet text))
+left-meet c = left-in (c .before .before .before) ∙ word-is-not _ _ (is-in (c .before) ∙ c .if5 .left)
 
 abbrev at-meet : tie.After-is5 → tie.After-field
 at-meet c = at-in (c .before .before .before)
 
 is-meet : (c : tie.After-is5) → is (fields (text-of (at-meet c))) MEET 2 ≡ c .is5 .result
-is-meet c = asked (text-of (at-meet c)) _ MEET _ 2 _ (at-meet c .before .field-count .ensures) (at-meet c .field .ensures) (c .is5 .ensures)
+is-meet c = asked (at-meet c) MEET 2 _ (c .is5 .ensures)
 
 left-agree : (c : tie.Else6) → recordOf (text-of (at-meet (c .before))) ≡ fromAgree (text-of (at-meet (c .before)))
-left-agree c =
-    let text = text-of (at-meet (c .before)) in
-    left-meet (c .before .before .before) ∙ (λ d. cond ((is-meet (c .before) ∙ c .if6 .left) d) (meetOf (allowanceAt text 1)) (fromAgree text))
+left-agree c = left-meet (c .before .before .before) ∙ word-is-not _ _ (is-meet (c .before) ∙ c .if6 .left)
 
 abbrev at-agree : tie.After-is6 → tie.After-field
 at-agree c = at-meet (c .before .before .before)
 
 is-agree : (c : tie.After-is6) → is (fields (text-of (at-agree c))) AGREE 3 ≡ c .is6 .result
-is-agree c = asked (text-of (at-agree c)) _ AGREE _ 3 _ (at-agree c .before .field-count .ensures) (at-agree c .field .ensures) (c .is6 .ensures)
+is-agree c = asked (at-agree c) AGREE 3 _ (c .is6 .ensures)
 
 returns : tie.Need-returns
 returns c = sym (long (c .before .before .args .text .now) (c .if1 .taken))
@@ -103,10 +98,8 @@ line-named-requires c κs = search needs
 
 returns-2 : tie.Need-returns-2
 returns-2 c =
-    let then = c .before .before in
-    let asked-is = then .before in
-    let text = text-of (at-line asked-is) in
-    c .line-named .ensures ∙ ap lineNamed (c .before .field2 .ensures) ∙ sym (left-line (at-line asked-is) ∙ (λ d. cond ((is-line asked-is ∙ then .if2 .taken) d) (lineNamed (field (fields text) 1)) (fromPt text)))
+    let said = c .before .before in
+    c .line-named .ensures ∙ ap lineNamed (c .before .field2 .ensures) ∙ sym (left-line (at-line (said .before)) ∙ word-is _ _ (is-line (said .before) ∙ said .if2 .taken))
 
 slice-aggregate-is-2 : tie.Need-slice-aggregate-is-2
 slice-aggregate-is-2 c = search needs
@@ -119,10 +112,8 @@ pt-requires c κs = search needs
 
 returns-3 : tie.Need-returns-3
 returns-3 c =
-    let then = c .before in
-    let asked-is = then .before in
-    let text = text-of (at-pt asked-is) in
-    c .pt .ensures ∙ sym (left-pt (asked-is .before .before) ∙ (λ d. cond ((is-pt asked-is ∙ then .if3 .taken) d) (ptOf (coordinateAt text 1) (coordinateAt text 2)) (fromNear text)))
+    let said = c .before in
+    c .pt .ensures ∙ sym (left-pt (said .before .before .before) ∙ word-is _ _ (is-pt (said .before) ∙ said .if3 .taken))
 
 slice-aggregate-is-3 : tie.Need-slice-aggregate-is-3
 slice-aggregate-is-3 c = search needs
@@ -135,10 +126,8 @@ near-requires c κs = search needs
 
 returns-4 : tie.Need-returns-4
 returns-4 c =
-    let then = c .before in
-    let asked-is = then .before in
-    let text = text-of (at-near asked-is) in
-    c .near .ensures ∙ sym (left-near (asked-is .before .before) ∙ (λ d. cond ((is-near asked-is ∙ then .if4 .taken) d) (nearOf (coordinateAt text 1) (coordinateAt text 2) (coordinateAt text 3) (allowanceAt text 4)) (fromIn text)))
+    let said = c .before in
+    c .near .ensures ∙ sym (left-near (said .before .before .before) ∙ word-is _ _ (is-near (said .before) ∙ said .if4 .taken))
 
 slice-aggregate-is-4 : tie.Need-slice-aggregate-is-4
 slice-aggregate-is-4 c = search needs
@@ -151,10 +140,8 @@ inside-requires c κs = search needs
 
 returns-5 : tie.Need-returns-5
 returns-5 c =
-    let then = c .before in
-    let asked-is = then .before in
-    let text = text-of (at-in asked-is) in
-    c .inside .ensures ∙ sym (left-in (asked-is .before .before) ∙ (λ d. cond ((is-in asked-is ∙ then .if5 .taken) d) (inOf (coordinateAt text 1) (coordinateAt text 2) (allowanceAt text 3)) (fromMeet text)))
+    let said = c .before in
+    c .inside .ensures ∙ sym (left-in (said .before .before .before) ∙ word-is _ _ (is-in (said .before) ∙ said .if5 .taken))
 
 slice-aggregate-is-5 : tie.Need-slice-aggregate-is-5
 slice-aggregate-is-5 c = search needs
@@ -167,10 +154,8 @@ meet-requires c κs = search needs
 
 returns-6 : tie.Need-returns-6
 returns-6 c =
-    let then = c .before in
-    let asked-is = then .before in
-    let text = text-of (at-meet asked-is) in
-    c .meet .ensures ∙ sym (left-meet (asked-is .before .before) ∙ (λ d. cond ((is-meet asked-is ∙ then .if6 .taken) d) (meetOf (allowanceAt text 1)) (fromAgree text)))
+    let said = c .before in
+    c .meet .ensures ∙ sym (left-meet (said .before .before .before) ∙ word-is _ _ (is-meet (said .before) ∙ said .if6 .taken))
 
 slice-aggregate-is-6 : tie.Need-slice-aggregate-is-6
 slice-aggregate-is-6 c = search needs
@@ -183,16 +168,11 @@ agree-requires c κs = search needs
 
 returns-7 : tie.Need-returns-7
 returns-7 c =
-    let then = c .before in
-    let asked-is = then .before in
-    let text = text-of (at-agree asked-is) in
-    c .agree .ensures ∙ sym (left-agree (asked-is .before .before) ∙ (λ d. cond ((is-agree asked-is ∙ then .if7 .taken) d) (agreeOf (coordinateAt text 1) (allowanceAt text 2)) NotUnderstood))
+    let said = c .before in
+    c .agree .ensures ∙ sym (left-agree (said .before .before .before) ∙ word-is _ _ (is-agree (said .before) ∙ said .if7 .taken))
 
 returns-8 : tie.Need-returns-8
-returns-8 c =
-    let asked-is = c .before in
-    let text = text-of (at-agree asked-is) in
-    sym (left-agree (asked-is .before .before) ∙ (λ d. cond ((is-agree asked-is ∙ c .if7 .left) d) (agreeOf (coordinateAt text 1) (allowanceAt text 2)) NotUnderstood))
+returns-8 c = sym (left-agree (c .before .before .before) ∙ word-is-not _ _ (is-agree (c .before) ∙ c .if7 .left))
 
 pub record-of-spec : {M : Type 1} → statement M
 record-of-spec =
