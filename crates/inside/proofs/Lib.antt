@@ -3,7 +3,7 @@ pub mod OnSheets
 pub mod Lengths
 pub mod Places
 pub mod Levels
-pub mod Held
+pub mod ReadBack
 pub mod Steps
 pub mod Splits
 pub mod Visits

@@ -1,12 +1,9 @@
 -- A point that passes the test of document 01 has both coordinates bounded, and the other way round.
-use mathlib.Core.Path.{_≡_}
-use mathlib.Core.Bool.{true, _&&_}
 use Prim.Native.Nat.{ℕ}
 use lib.Dec.{T}
 use lib.IntN.{ℤ, pos, negℤ}
-use lib.Signed.{leZ, _≤ℤ_, leZ-yes}
+use lib.Signed.{leZ, leZ-yes}
 use mir.Facts.{and-yes, yes-and}
-use Rattle.whole.specs.Order.{T-true}
 use Rattle.whole.specs.Range.{Abs≤, abs-of, abs-lo, abs-hi}
 use Rattle.rules.specs.declared.Point.{Point}
 use Rattle.rules.specs.Sheet.{between, inSheet, onSheet}

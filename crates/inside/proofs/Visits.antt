@@ -1,6 +1,6 @@
 -- One visit of IN by its cases, in the order of the code.
 use mathlib.Core.Path.{_≡_, refl, sym, _∙_, ap, subst}
-use mathlib.Core.Bool.{Bool, true, false, not, cond, _||_}
+use mathlib.Core.Bool.{Bool, true, false, cond, _||_}
 use mathlib.Core.List.{List}
 use Prim.Native.Nat.{ℕ}
 use lib.Dec.{leb}
@@ -24,12 +24,14 @@ use Rattle.inside.specs.declared.Step.the-variants.{Bad, Finish, Pass}
 
 -- ---------------- a node is split
 module _ (ps : List ℤ) (n : Node) (s : ℕ) where
+  -- a child's row is not below 2n-1
   abbrev beyond : Bool
   beyond = leb (rowCount (segmentsOf ps)) (leftOf n s .row) || leb (rowCount (segmentsOf ps)) (rightOf n s .row)
 
   abbrev opened : Bool → Visit Bool Node
   opened b = cond b (refuse 11 LineA (n .row)) (halve (leftOf n s) (rightOf n s))
 
+  -- then 11 is refused, and else the node is halved
   pub open-beyond : childrenFit ps n s ≡ false → opened true ≡ openNode LineA ps n s halve
   open-beyond e = sym (ap opened (not-false beyond e))
 
@@ -37,6 +39,7 @@ module _ (ps : List ℤ) (n : Node) (s : ℕ) where
   open-halves e = sym (ap opened (not-true beyond e))
 
 -- ---------------- a leaf
+-- what its test comes to is what the definition says, and no split
 leaf-step : (n : Node) (on crossed : Bool)
     → (stepVisit n (cond on Finish (Pass crossed)) ≡ cond on finish (pass (count crossed))) × SplitsInside n (cond on Finish (Pass crossed))
 leaf-step n true crossed = (refl, tt)
@@ -58,11 +61,13 @@ fineOf ps n r = good ps r (n .first) (n .last)
 abbrev clearAt : Row → Point → Point → Point → Bool
 clearAt r a b z = clearOf r a (direction a b) z
 
+-- where they are those of the node, that is the visit
 as-read : (ps t : List ℤ) (z : Point) (n : Node) (r : Row) (a b : Point) → r ≡ rowAt t (n .row) → a ≡ startOf ps n → b ≡ endOf ps n
     → chosen ps z n r a b (fineOf ps n r) (clearAt r a b z) (leaf n) ≡ inVisit ps t z n
 unfolding inVisit
 as-read ps t z n r a b row from to = λ d. chosen ps z n (row d) (from d) (to d) (fineOf ps n (row d)) (clearAt (row d) (from d) (to d) z) (leaf n)
 
+-- a bad row is refused
 pub visit-bad : (ps t : List ℤ) (z : Point) (n : Node) (r : Row) → r ≡ rowAt t (n .row) → fineOf ps n r ≡ false → stepVisit n Bad ≡ inVisit ps t z n
 visit-bad ps t z n r row g =
     let a = startOf ps n in
@@ -83,22 +88,27 @@ module _ (ps t : List ℤ) (z : Point) (n : Node) (m : RowRead ps t n) where
   abbrev pub isClear : Bool
   isClear = clearAt (m .row) (m .start) (m .end) z
 
+  -- and whether its chord crosses the ray
   abbrev hits : Bool
   hits = crosses z (m .start) (m .end)
 
+  -- of a good row, the two tests that are left decide
   good-visit : (clear end : Bool) → isClear ≡ clear → leaf n ≡ end → chosen ps z n (m .row) (m .start) (m .end) true clear end ≡ inVisit ps t z n
   good-visit clear end h l =
       sym (λ d. chosen ps z n (m .row) (m .start) (m .end) (m .fine d) (h d) (l d))
       ∙ as-read ps t z n (m .row) (m .start) (m .end) (m .row-is) (m .start-is) (m .end-is)
 
+  -- z clear of the node: the chord alone is counted
   pub visit-clear : (k : Bool) → isClear ≡ true → k ≡ hits → stepVisit n (Pass k) ≡ inVisit ps t z n
   visit-clear k h e = (λ d. pass (count (e d))) ∙ good-visit true (leaf n) h refl
 
+  -- a leaf left over is tested exactly
   pub visit-leaf : (s : Step) → isClear ≡ false → leaf n ≡ true → s ≡ cond (onSegment z (m .start) (m .end)) Finish (Pass hits)
       → (stepVisit n s ≡ inVisit ps t z n) × SplitsInside n s
   visit-leaf s h l e =
       let k = leaf-step n (onSegment z (m .start) (m .end)) hits in
       (ap (stepVisit n) e ∙ k .0 ∙ good-visit false true h l, subst (SplitsInside n) (sym e) (k .1))
 
+  -- any other node is split
   pub visit-open : (s : ℕ) → isClear ≡ false → leaf n ≡ false → s ≡ splitIn (m .row) → openNode LineA ps n s halve ≡ inVisit ps t z n
   visit-open s h l e = (λ d. openNode LineA ps n (e d) halve) ∙ good-visit false false h l

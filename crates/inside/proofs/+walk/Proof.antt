@@ -14,7 +14,7 @@ use Rattle.rules.specs.Walk.{next, Visit, Walked, over, goOn}
 use Rattle.rules.specs.Walk.{walk as writtenWalk}
 use Rattle.rules.specs.Questions.{rightOf, inVisit}
 use Rattle.inside.specs.declared.Step.{Step}
-use Rattle.inside.specs.declared.Step.the-variants.{Bad, Beyond, Finish, Pass, Halve}
+use Rattle.inside.specs.declared.Step.the-variants.{Bad, Beyond, Finish, Halve}
 use Rattle.inside.specs.declared.RingWalk.{RingWalk}
 use Rattle.inside.specs.declared.RingWalk.the-variants as outcome
 use Rattle.inside.specs.Fine.{Stands}

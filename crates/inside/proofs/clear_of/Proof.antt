@@ -1,12 +1,12 @@
 -- `clear_of` asks the box, then c, then t; the first that z is outside of decides.
 use mathlib.Core.Path.{_≡_, sym, _∙_}
-use mathlib.Core.Bool.{Bool, true, false, _||_}
+use mathlib.Core.Bool.{Bool, false, _||_}
 use mir.Syntax.{w64}
 use Rattle.whole.specs.Machine.{result}
 use Rattle.rules.specs.Plane.{cAt, tAt}
 use Rattle.rules.specs.Questions.{outside, clearOf}
 use borrow.Author.Needs.{needs}
-use Rattle.inside.proofs.Held.{held}
+use Rattle.inside.proofs.ReadBack.{read-back}
 use Rattle.inside.proofs.clear_of.Statement.{statement}
 use Rattle.inside.proofs.clear_of.Tie as tie
 
@@ -26,29 +26,29 @@ along s = outside (s .args .r .tmin) (s .args .r .tmax) (tAt (s .args .s) (s .ar
 beside-told : (c : tie.After-outside) → c .outside .result ≡ beside (c .before .before .before .before)
 beside-told c =
     let s = c .before .before .before .before in
-    let lo = held (s .args .r .xmin) (c .before .before .before .struct-told .given .1 .1 .1 .1 .1 .1 .1 .0 .1) in
-    let hi = held (s .args .r .xmax) (c .before .before .struct-told2 .given .1 .1 .1 .1 .1 .1 .1 .1 .0 .1) in
-    let v = held (s .args .z .x) (c .before .struct-told3 .given .0 .1) in c .outside .ensures ∙ (λ d. outside (lo d) (hi d) (v d))
+    let lo = read-back (s .args .r .xmin) (c .before .before .before .struct-told .given .1 .1 .1 .1 .1 .1 .1 .0 .1) in
+    let hi = read-back (s .args .r .xmax) (c .before .before .struct-told2 .given .1 .1 .1 .1 .1 .1 .1 .1 .0 .1) in
+    let v = read-back (s .args .z .x) (c .before .struct-told3 .given .0 .1) in c .outside .ensures ∙ (λ d. outside (lo d) (hi d) (v d))
 
 above-told : (c : tie.After-outside2) → c .outside2 .result ≡ above (c .before .before .before .before .before .before .before .before .before)
 above-told c =
     let s = c .before .before .before .before .before .before .before .before .before in
-    let lo = held (s .args .r .ymin) (c .before .before .before .struct-told4 .given .1 .1 .1 .1 .1 .1 .1 .1 .1 .0 .1) in
-    let hi = held (s .args .r .ymax) (c .before .before .struct-told5 .given .1 .1 .1 .1 .1 .1 .1 .1 .1 .1 .0 .1) in
-    let v = held (s .args .z .y) (c .before .struct-told6 .given .1 .0 .1) in c .outside2 .ensures ∙ (λ d. outside (lo d) (hi d) (v d))
+    let lo = read-back (s .args .r .ymin) (c .before .before .before .struct-told4 .given .1 .1 .1 .1 .1 .1 .1 .1 .1 .0 .1) in
+    let hi = read-back (s .args .r .ymax) (c .before .before .struct-told5 .given .1 .1 .1 .1 .1 .1 .1 .1 .1 .1 .0 .1) in
+    let v = read-back (s .args .z .y) (c .before .struct-told6 .given .1 .0 .1) in c .outside2 .ensures ∙ (λ d. outside (lo d) (hi d) (v d))
 
 across-told : (c : tie.After-outside3) → c .outside3 .result ≡ across (c .before .before .before .before .before .before .before .before .before .before .before .before .before .before)
 across-told c =
     let s = c .before .before .before .before .before .before .before .before .before .before .before .before .before .before in
-    let lo = held (s .args .r .cmin) (c .before .before .struct-told7 .given .1 .1 .1 .0 .1) in
-    let hi = held (s .args .r .cmax) (c .before .struct-told8 .given .1 .1 .1 .1 .0 .1) in
+    let lo = read-back (s .args .r .cmin) (c .before .before .struct-told7 .given .1 .1 .1 .0 .1) in
+    let hi = read-back (s .args .r .cmax) (c .before .struct-told8 .given .1 .1 .1 .1 .0 .1) in
     let k = c .before .before .before .c-at in c .outside3 .ensures ∙ (λ d. outside (lo d) (hi d) (result w64 (k .ok) (k .ensures) d))
 
 along-told : (c : tie.After-outside4) → c .outside4 .result ≡ along (c .before .before .before .before .before .before .before .before .before .before .before .before .before .before .before .before .before .before .before)
 along-told c =
     let s = c .before .before .before .before .before .before .before .before .before .before .before .before .before .before .before .before .before .before .before in
-    let lo = held (s .args .r .tmin) (c .before .before .struct-told9 .given .1 .1 .1 .1 .1 .0 .1) in
-    let hi = held (s .args .r .tmax) (c .before .struct-told10 .given .1 .1 .1 .1 .1 .1 .0 .1) in
+    let lo = read-back (s .args .r .tmin) (c .before .before .struct-told9 .given .1 .1 .1 .1 .1 .0 .1) in
+    let hi = read-back (s .args .r .tmax) (c .before .struct-told10 .given .1 .1 .1 .1 .1 .1 .0 .1) in
     let k = c .before .before .before .t-at in c .outside4 .ensures ∙ (λ d. outside (lo d) (hi d) (result w64 (k .ok) (k .ensures) d))
 
 -- what is known once the first, the second and the third are false

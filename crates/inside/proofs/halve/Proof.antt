@@ -1,8 +1,6 @@
 -- `halve` asks whether the children's rows are below 2n-1.
-use mathlib.Core.Path.{_≡_, sym, _∙_}
-use mathlib.Core.Bool.{Bool, true, false}
+use mathlib.Core.Path.{sym, _∙_}
 use borrow.Author.Tests.{not-true, not-false}
-use Rattle.line.specs.Said.{childrenFit}
 use borrow.Author.Needs.{needs}
 use Rattle.inside.proofs.Visits.{open-beyond, open-halves}
 use Rattle.inside.proofs.halve.Statement.{statement}

@@ -1,6 +1,6 @@
 -- `inside` asks in the order of the checks; then the walk from the root stands in its line and its table.
-use mathlib.Core.Path.{_≡_, sym, _∙_, ap}
-use mathlib.Core.Bool.{true, false}
+use mathlib.Core.Path.{_≡_, refl, sym, _∙_, ap}
+use mathlib.Core.Bool.{true}
 use mathlib.Core.Option.{none}
 use native.Mathlib.Omega.{arith}
 use borrow.Author.Tests.{not-true, not-false}
@@ -10,29 +10,33 @@ use Rattle.rules.specs.Sheet.{onSheet, segmentsOf}
 use Rattle.rules.specs.Reply.{sideReply, firstRefusal}
 use Rattle.rules.specs.Rows.{lengthChecks}
 use Rattle.rules.specs.Questions.{sideOfRing}
+use Rattle.line.specs.declared.Checked.{Checked}
 use Rattle.line.specs.declared.Checked.the-variants.{Fine}
 use Rattle.line.specs.Said.{checkedRefusal}
 use Rattle.inside.specs.Fine.{LengthsFine}
 use Rattle.inside.proofs.Lengths.{lengths-fine}
 use Rattle.inside.proofs.OnSheets.{on-sheet}
 use Rattle.inside.proofs.Places.{root-stands}
-use Rattle.inside.proofs.Replies.{lengths-reply, off-reply, broken-reply, walk-reply}
+use Rattle.inside.proofs.Replies.{in-checked}
 use borrow.Author.Needs.{needs}
 use Rattle.inside.proofs.inside.Statement.{statement}
 use Rattle.inside.proofs.inside.Tie as tie
 
 -- ---------------- what is known after each check
-fine : (c : tie.After-enum-told) → none ≡ firstRefusal (lengthChecks LineA (c .before .before .before .args .points .now) (c .before .before .before .args .table .now))
-fine c =
-    let k = c .before .before .check-lengths in
-    let e : k .result ≡ Fine = cc in ap checkedRefusal (sym e) ∙ k .ensures
+lengths-told : (c : tie.After-check-lengths) {k : Checked} → c .check-lengths .result ≡ k
+    → firstRefusal (lengthChecks LineA (c .before .args .points .now) (c .before .args .table .now)) ≡ checkedRefusal k
+lengths-told c e = sym (c .check-lengths .ensures) ∙ ap checkedRefusal e
+
+fine : (c : tie.After-enum-told) → firstRefusal (lengthChecks LineA (c .before .before .before .args .points .now) (c .before .before .before .args .table .now)) ≡ none
+fine c = let e : c .before .before .check-lengths .result ≡ Fine = cc in lengths-told (c .before .before) e
 
 lengths : (c : tie.After-enum-told) → LengthsFine (c .before .before .before .args .points .now) (c .before .before .before .args .table .now)
-lengths c = lengths-fine LineA _ _ (sym (fine c))
+lengths c = lengths-fine LineA _ _ (fine c)
 
 on : (c : tie.Else1) → onSheet (c .before .before .before .before .before .args .z) ≡ true
 on c = sym (c .before .on-sheet .ensures) ∙ not-false _ (c .if1 .left)
 
+-- ---------------- the checks
 check-lengths-requires : tie.Need-check-lengths-requires
 check-lengths-requires c κs = search needs
 
@@ -40,9 +44,7 @@ enum-known-refusal : tie.Need-enum-known-refusal
 enum-known-refusal c = search needs
 
 returns : tie.Need-returns
-returns c =
-    let k = c .before .before .before .check-lengths in
-    lengths-reply _ _ _ _ (ap checkedRefusal (sym (c .before .refusal .given .1)) ∙ k .ensures)
+returns c = in-checked _ _ _ _ (lengths-told (c .before .before .before) (c .before .refusal .given .1)) refl refl
 
 enum-told : tie.Need-enum-told
 enum-told c = search needs
@@ -56,7 +58,7 @@ early-requires c κs = search needs
 returns-2 : tie.Need-returns-2
 returns-2 c =
     let o = c .before .before in
-    ap sideReply (c .early .ensures) ∙ off-reply _ _ _ _ (fine (o .before)) (sym (o .on-sheet .ensures) ∙ not-true _ (c .before .if1 .taken))
+    ap sideReply (c .early .ensures) ∙ in-checked _ _ _ _ (fine (o .before)) (sym (o .on-sheet .ensures) ∙ not-true _ (c .before .if1 .taken)) refl
 
 no-ring-requires : tie.Need-no-ring-requires
 no-ring-requires c κs = omega (arith, lengths (c .before .before) .some-points)
@@ -67,8 +69,9 @@ early-requires-2 c κs = search needs
 returns-3 : tie.Need-returns-3
 returns-3 c =
     let r = c .before .before in
-    ap sideReply (c .early2 .ensures) ∙ broken-reply _ _ _ _ (fine (r .before .before .before)) (on (r .before)) (sym (r .no-ring .ensures) ∙ c .before .if2 .taken)
+    ap sideReply (c .early2 .ensures) ∙ in-checked _ _ _ _ (fine (r .before .before .before)) (on (r .before)) (sym (r .no-ring .ensures) ∙ c .before .if2 .taken)
 
+-- ---------------- the walk
 sub-t17 : tie.Need-sub-t17
 sub-t17 c = omega (arith, lengths (c .before .before .before .before) .some-points)
 
@@ -85,7 +88,7 @@ returns-4 c =
     let s = r .before .before .before .before .before .before in
     c .side-of-ring .ensures
     ∙ ap (sideOfRing (s .args .allowance)) (w .walk .ensures (segmentsOf (s .args .points .now)) (omega arith))
-    ∙ walk-reply _ _ _ _ (fine (r .before .before .before)) (on (r .before)) (sym (r .no-ring .ensures) ∙ w .before .if2 .left)
+    ∙ in-checked _ _ _ _ (fine (r .before .before .before)) (on (r .before)) (sym (r .no-ring .ensures) ∙ w .before .if2 .left)
 
 pub inside-spec : {M : Type 1} → statement M
 inside-spec =

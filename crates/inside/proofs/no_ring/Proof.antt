@@ -1,5 +1,5 @@
 -- `no_ring` is the two reasons of refusal 9.
-use mathlib.Core.Path.{_≡_, sym, _∙_}
+use mathlib.Core.Path.{sym, _∙_}
 use mathlib.Core.Bool.{not, _||_}
 use borrow.Author.Tests.{lt-ltb, le-ltb}
 use Rattle.rules.specs.Plane.{samePoint}

@@ -1,6 +1,6 @@
 -- `on_segment` asks both ranges, then c.
 use mathlib.Core.Path.{_≡_, sym, _∙_, subst}
-use mathlib.Core.Bool.{Bool, true, false, _&&_}
+use mathlib.Core.Bool.{Bool, _&&_}
 use lib.IntN.{pos}
 use mir.Syntax.{w64}
 use mir.Facts.{sfits-lit}
@@ -11,7 +11,7 @@ use Rattle.rules.specs.Plane.{step, cAt}
 use Rattle.rules.specs.Plain.{rangeHolds, onSegment}
 use Rattle.line.specs.Small.{Small}
 use borrow.Author.Needs.{needs}
-use Rattle.inside.proofs.Held.{held}
+use Rattle.inside.proofs.ReadBack.{read-back}
 use Rattle.inside.proofs.Steps.{step-small}
 use Rattle.inside.proofs.on_segment.Statement.{statement}
 use Rattle.inside.proofs.on_segment.Tie as tie
@@ -29,16 +29,16 @@ straight s = eqZ (cAt (s .args .a) (step (s .args .a) (s .args .b)) (s .args .z)
 beside-told : (c : tie.After-range-holds) → c .range-holds .result ≡ beside (c .before .before .before .before)
 beside-told c =
     let s = c .before .before .before .before in
-    let a = held (s .args .a .x) (c .before .before .before .struct-told .given .0 .1) in
-    let b = held (s .args .b .x) (c .before .before .struct-told2 .given .0 .1) in
-    let z = held (s .args .z .x) (c .before .struct-told3 .given .0 .1) in c .range-holds .ensures ∙ (λ d. rangeHolds (a d) (b d) (z d))
+    let a = read-back (s .args .a .x) (c .before .before .before .struct-told .given .0 .1) in
+    let b = read-back (s .args .b .x) (c .before .before .struct-told2 .given .0 .1) in
+    let z = read-back (s .args .z .x) (c .before .struct-told3 .given .0 .1) in c .range-holds .ensures ∙ (λ d. rangeHolds (a d) (b d) (z d))
 
 level-told : (c : tie.After-range-holds2) → c .range-holds2 .result ≡ level (c .before .before .before .before .before .before .before .before .before)
 level-told c =
     let s = c .before .before .before .before .before .before .before .before .before in
-    let a = held (s .args .a .y) (c .before .before .before .struct-told4 .given .1 .0 .1) in
-    let b = held (s .args .b .y) (c .before .before .struct-told5 .given .1 .0 .1) in
-    let z = held (s .args .z .y) (c .before .struct-told6 .given .1 .0 .1) in c .range-holds2 .ensures ∙ (λ d. rangeHolds (a d) (b d) (z d))
+    let a = read-back (s .args .a .y) (c .before .before .before .struct-told4 .given .1 .0 .1) in
+    let b = read-back (s .args .b .y) (c .before .before .struct-told5 .given .1 .0 .1) in
+    let z = read-back (s .args .z .y) (c .before .struct-told6 .given .1 .0 .1) in c .range-holds2 .ensures ∙ (λ d. rangeHolds (a d) (b d) (z d))
 
 range-holds-requires : tie.Need-range-holds-requires
 range-holds-requires c κs = search needs

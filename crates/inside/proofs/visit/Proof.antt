@@ -12,7 +12,7 @@ use Rattle.rules.specs.Questions.{clearOf}
 use Rattle.visits.proofs.Nodes.{GoodRow, good-read}
 use Rattle.line.specs.Small.{OnSheet, Small}
 use borrow.Author.Needs.{needs}
-use Rattle.inside.proofs.Held.{held}
+use Rattle.inside.proofs.ReadBack.{read-back}
 use Rattle.inside.proofs.OnSheets.{on-sheet}
 use Rattle.inside.proofs.Places.{row-small}
 use Rattle.inside.proofs.Splits.{split-above}
@@ -99,14 +99,14 @@ returns-3 c =
     visit-leaf _ _ (start p .args .z) _ (read p) _ (sym (clear-told k) ∙ c .before .before .if2 .left) (le-leb _ _ (c .before .if3 .taken)) (c .test-leaf .ensures)
 
 -- ---------------- a split
--- as it is cast
+-- as the cast reads it
 split-held : (c : tie.After-struct-told) → toZ w64 (ofZ w64 (read (c .before .before .before .before .before .before) .row .split)) ≡ read (c .before .before .before .before .before .before) .row .split
-split-held c = held _ (c .struct-told .given .1 .1 .0 .1)
+split-held c = read-back _ (c .struct-told .given .1 .1 .0 .1)
 
 cast-halve : tie.Need-cast-halve
 cast-halve c =
     let p = c .before .before .before .before .before .before in
-    nat-cast {w = w64} {w′ = w64} (record { sfits = c .struct-told .given .1 .1 .0 .1 }) tt (split-held c) (split-above _ _ _ _ (T-true (read p .fine)) (c .before .before .if3 .left))
+    nat-cast {w = w64} {w′ = w64} (record { sfits = c .struct-told .given .1 .1 .0 .1 }) tt (split-held c) (split-above _ _ _ _ (c .before .before .if3 .left) (T-true (read p .fine)))
 
 halve-requires : tie.Need-halve-requires
 halve-requires c κs =

@@ -7,5 +7,5 @@ use mir.Syntax.{w64}
 use mir.Val.{hbits, toZ, ofZ}
 use mir.Facts.{toZ-ofZ}
 
-pub held : (x : ℤ) → mag x < 2 ^ hbits w64 → toZ w64 (ofZ w64 x) ≡ x
-held x h = toZ-ofZ (record { sfits = h })
+pub read-back : (x : ℤ) → mag x < 2 ^ hbits w64 → toZ w64 (ofZ w64 x) ≡ x
+read-back x h = toZ-ofZ (record { sfits = h })
