@@ -18,10 +18,12 @@ use Rattle.built.proofs.Part.{part-point, standing, split-part, measured-part}
 use Rattle.built.proofs.Narrow.{measured-range, numbers-fit}
 use Rattle.build.specs.Run.{AllOnSheet, splitIn, measureOf, rowOf, nodeSplit, nodeRow}
 
+-- the part of the line from point first to point last
 abbrev pub runOf : List ℤ → ℕ → ℕ → List ℤ
 runOf ps first last = take (2 * last + 2 - 2 * first) (drop (2 * first) ps)
 
 module _ (ps : List ℤ) (first last : ℕ) (order : first < last) (room : 2 * last + 2 ≤ length ps) where
+  -- it is as long as its points ask, and has their segments
   run-length : length (runOf ps first last) ≡ 2 * last + 2 - 2 * first
   run-length = length-take-le (2 * last + 2 - 2 * first) (drop (2 * first) ps) (omega (arith, length-drop (2 * first) ps))
 

@@ -4,11 +4,12 @@ use mathlib.Core.Bool.{true}
 use native.Mathlib.Omega.{arith}
 use lib.IntN.{pos}
 use Rattle.whole.specs.Laws.{cond-ind}
-use Rattle.whole.specs.Poly.{_:*_, _:-_}
+use Rattle.whole.specs.Poly.{_:-_}
 use Rattle.whole.specs.Range.{Abs≤, nil, _&_, within}
 use Rattle.rules.specs.declared.Point.{Point}
 use Rattle.rules.specs.Plane.{samePoint, step, direction, cAt}
 use Rattle.rules.specs.Sheet.{onSheet}
+use Rattle.visits.proofs.Terms.{cE}
 use Rattle.line.specs.Small.{OnSheet, Small}
 use Rattle.built.specs.RowRange.{stripMost}
 use Rattle.built.proofs.Measured.{x-on, y-on}
@@ -29,8 +30,8 @@ direction-small a b p q =
       y-in = within 2 (λ v w. w :- v) (p .y-in & q .y-in & nil);
     })
 
--- c of points on the sheet
+-- c of points on the sheet is at most 2*32,766^2
 pub c-size : (s u p : Point) → OnSheet s → Small u → OnSheet p → Abs≤ stripMost (cAt s u p)
 c-size s u p hs hu hp =
-    within 6 (λ a b x y v w. a :* (w :- y) :- b :* (v :- x))
+    within 6 (λ ux uy sx sy px py. cE sx sy ux uy px py)
     (hu .x-in & hu .y-in & hs .x-in & hs .y-in & hp .x-in & hp .y-in & nil)

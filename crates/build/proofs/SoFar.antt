@@ -12,25 +12,21 @@ use lib.Dec.{ltb, eqb}
 use lib.IntN.{ℤ, pos, natAbs}
 use mir.Facts.{and-yes}
 use Rattle.whole.specs.Laws.{cond-ind}
-use Rattle.whole.specs.Check.{con, _:+_, _:*_, _:-_, _:=_, ring}
+use Rattle.whole.specs.Check.{con, _:*_, _:-_, _:=_, ring}
 use Rattle.whole.specs.Order.{eqZ, eqZ-yes}
 use Rattle.rules.specs.declared.Point.{Point}
-use Rattle.rules.specs.Plane.{samePoint, step, direction, cAt, tAt}
+use Rattle.rules.specs.Plane.{samePoint, step, direction, cAt}
 use Rattle.rules.specs.Sheet.{point, segmentsOf}
 use Rattle.rules.specs.Tree.{nodeC, nodeT, least, greatest, height, offMiddle, better, best, splitOf, measured, isLeaf}
+use Rattle.visits.proofs.Terms.{c-start, t-start}
 use Rattle.built.proofs.Rows.{≤-or->}
 use Rattle.build.specs.declared.run.Top.{Top}
 use Rattle.build.specs.declared.run.Measured.{Measured}
 use Rattle.build.specs.Run.{startOf, spanWith, measuredWith, measureOf}
 
--- ---------------- c at the ends of a run
+-- ---------------- the ends of a run
 
-c-start : (s u : Point) → cAt s u s ≡ pos 0
-c-start s u = ring 4 (λ a b x y. a :* (y :- y) :- b :* (x :- x) := con (pos 0)) tt (u .x) (u .y) (s .x) (s .y)
-
-t-start : (s u : Point) → tAt s u s ≡ pos 0
-t-start s u = ring 4 (λ a b x y. a :* (x :- x) :+ b :* (y :- y) := con (pos 0)) tt (u .x) (u .y) (s .x) (s .y)
-
+-- c is 0 at the last point
 c-end : (s e : Point) → cAt s (direction s e) e ≡ pos 0
 unfolding direction
 c-end s e =
@@ -43,8 +39,9 @@ c-end s e =
         ap (λ (y : ℤ). cAt s (record { x = pos 1; y = pos 0 }) (record { x = e .x; y = y })) (sym q)
         ∙ ring 3 (λ x y v. con (pos 1) :* (y :- y) :- con (pos 0) :* (v :- x) := con (pos 0)) tt (s .x) (s .y) (e .x)
 
--- ---------------- the point with the greatest height so far
+-- ---------------- so far
 
+-- the best of the points 0 to i, the first point among them
 unfoldable pub topSoFar : List ℤ → ℕ → ℕ → ℕ
 topSoFar q last zero = 0
 topSoFar q last (suc i) = cond (better q 0 last (topSoFar q last i) (suc i)) (suc i) (topSoFar q last i)
@@ -59,10 +56,12 @@ upTo q last i s = record {
   top = record { split = s; height = height q 0 last s };
 }
 
+-- what is measured of the points 0 to i
 abbrev pub soFar : List ℤ → ℕ → ℕ → Measured
 soFar q last i = upTo q last i (topSoFar q last i)
 
 module _ (q : List ℤ) (last : ℕ) where
+  -- the ends have no height
   height-start : height q 0 last 0 ≡ 0
   unfolding height
   height-start = ap natAbs (c-start (point q 0) (direction (point q 0) (point q last)))
@@ -71,6 +70,7 @@ module _ (q : List ℤ) (last : ℕ) where
   unfolding height
   height-end = ap natAbs (c-end (point q 0) (point q last))
 
+  -- the best is one of them
   pub top-below : (i : ℕ) → topSoFar q last i ≤ i
   unfolding topSoFar
   top-below zero = omega arith
@@ -116,21 +116,21 @@ module _ (q : List ℤ) (last : ℕ) where
   -- the first inner point takes the place of the first point
   first-inner : 1 < last → better q 0 last 0 1 ≡ true
   unfolding better
-  first-inner h = ⊎-elim even above (≤-or-> (height q 0 last 1) 0)
+  first-inner h = ⊎-elim (λ k. even (omega (arith, height-start))) (λ k. above (omega (arith, height-start))) (≤-or-> h1 0)
     where
-      nearer : Bool
-      nearer = ltb (offMiddle 0 last 1) (offMiddle 0 last 0)
+      h0 : ℕ
+      h0 = height q 0 last 0
 
-      even : height q 0 last 1 ≤ 0 → ltb (height q 0 last 0) (height q 0 last 1) || (eqb (height q 0 last 0) (height q 0 last 1) && nearer) ≡ true
-      even k =
-          let e = eq-eqb (height q 0 last 0) (height q 0 last 1) (omega (arith, height-start)) in
+      h1 : ℕ
+      h1 = height q 0 last 1
+
+      even : h0 ≡ h1 → ltb h0 h1 || (eqb h0 h1 && ltb (offMiddle 0 last 1) (offMiddle 0 last 0)) ≡ true
+      even e =
           let o = lt-ltb (offMiddle 0 last 1) (offMiddle 0 last 0) (omega arith) in
-          (λ d. ltb (height q 0 last 0) (height q 0 last 1) || (e d && o d)) ∙ or-true (ltb (height q 0 last 0) (height q 0 last 1))
+          (λ d. ltb h0 h1 || (eq-eqb h0 h1 e d && o d)) ∙ or-true (ltb h0 h1)
 
-      above : 0 < height q 0 last 1 → ltb (height q 0 last 0) (height q 0 last 1) || (eqb (height q 0 last 0) (height q 0 last 1) && nearer) ≡ true
-      above k =
-          let l = lt-ltb (height q 0 last 0) (height q 0 last 1) (omega (arith, height-start)) in
-          λ d. l d || (eqb (height q 0 last 0) (height q 0 last 1) && nearer)
+      above : h0 < h1 → ltb h0 h1 || (eqb h0 h1 && ltb (offMiddle 0 last 1) (offMiddle 0 last 0)) ≡ true
+      above l = λ d. lt-ltb h0 h1 l d || (eqb h0 h1 && ltb (offMiddle 0 last 1) (offMiddle 0 last 0))
 
   -- the last point takes no place
   last-passed : (s : ℕ) → s ≤ last → better q 0 last s last ≡ false
@@ -140,7 +140,7 @@ module _ (q : List ℤ) (last : ℕ) where
       let o = le-ltb (offMiddle 0 last last) (offMiddle 0 last s) (omega arith) in
       (λ d. l d || (eqb (height q 0 last s) (height q 0 last last) && o d)) ∙ and-false (eqb (height q 0 last s) (height q 0 last last))
 
-  -- among the inner points
+  -- so before the last point the best is the best of the inner points
   inner-top : (i : ℕ) → suc i < last → topSoFar q last (suc i) ≡ best q 0 last i
   unfolding topSoFar best
   inner-top zero h = ap (λ (b : Bool). cond b 1 0) (first-inner h)
@@ -149,7 +149,7 @@ module _ (q : List ℤ) (last : ℕ) where
       let j : suc (suc i) ≡ 0 + 1 + suc i = omega arith in
       λ d. cond (better q 0 last (ih d) (j d)) (j d) (ih d)
 
-  -- so the split of the whole run
+  -- and at the last point it is the split of the run
   top-all : (i : ℕ) → suc i ≡ last → topSoFar q last (suc i) ≡ cond (isLeaf 0 last) 0 (splitOf q 0 last)
   unfolding topSoFar splitOf
   top-all i e = passed ∙ inner i e
@@ -166,7 +166,7 @@ module _ (q : List ℤ) (last : ℕ) where
           inner-top i (omega arith) ∙ ap (best q 0 last) k
           ∙ sym (ap (λ (b : Bool). cond b 0 (best q 0 last (last - 0 - 2))) (lt-leb last (0 + 1) (omega arith)))
 
--- the whole run
+-- what is measured so far at the last point is what is measured of the run
 pub so-far-all : (q : List ℤ) → 1 ≤ segmentsOf q → soFar q (segmentsOf q) (segmentsOf q) ≡ measureOf q
 unfolding measured
 so-far-all q h = all (segmentsOf q) refl h
