@@ -1,15 +1,11 @@
 //! `second` answers a question file, `second --check` also holds each decided answer against the
 //! plain geometry, `second generate SEED COUNT` writes a question file.
 
-mod generate;
-mod geometry;
-mod program;
-mod tree;
-mod walk;
-
 use std::env;
 use std::io;
 use std::process::ExitCode;
+
+use second::{generate, program};
 
 const USAGE: &str = "usage: second [--check] < questions > answers
        second generate SEED COUNT > questions";

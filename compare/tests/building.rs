@@ -1,0 +1,151 @@
+//! Building: each refusal, its place, and the table that it leaves untouched; and the described table otherwise.
+
+use compare::{Dice, Lent};
+use kneukelboom::lent::{self, line, word, Reply};
+
+/// Builds into a table of so many numbers and looks that a refusal leaves every one as it was.
+fn refused(points: &[i32], room: usize) -> (u32, u64) {
+    let before: Vec<i32> = (0..room as i32).map(|k| k * 31 - 7).collect();
+    let mut table = before.clone();
+    let reply = lent::build(points, &mut table);
+    assert_eq!(reply.word, word::REFUSED, "{reply:?}");
+    assert_eq!((reply.line, reply.visits), (line::LINE_A, 0));
+    assert_eq!(table, before, "a refused build wrote");
+    (reply.number, reply.place)
+}
+
+fn taken(points: &[i32], room: usize) -> Vec<i32> {
+    let before: Vec<i32> = (0..room as i32).map(|k| k * 31 - 7).collect();
+    let mut table = before.clone();
+    let built = Reply {
+        word: word::BUILT,
+        visits: 0,
+        number: 0,
+        line: line::NO_LINE,
+        place: 0,
+    };
+    assert_eq!(lent::build(points, &mut table), built);
+    let rows = lent::table_len(points.len());
+    assert_eq!(
+        table[rows..],
+        before[rows..],
+        "numbers past the rows stay unchanged"
+    );
+    table
+}
+
+/// So many points along the sheet, no two neighbours equal.
+fn long_line(points: usize) -> Vec<i32> {
+    (0..points as i32)
+        .flat_map(|k| [k * 4 - 8_192, k % 2])
+        .collect()
+}
+
+const L: [i32; 6] = [0, 0, 4, 3, 8, 0];
+
+#[test]
+fn odd_length_is_refused_1_and_too_few_points_2() {
+    assert_eq!(refused(&[0], 99), (1, 0));
+    assert_eq!(refused(&[0, 0, 4], 99), (1, 0));
+    assert_eq!(refused(&[], 99), (2, 0));
+    assert_eq!(refused(&[5, 5], 99), (2, 0));
+}
+
+#[test]
+fn a_line_of_4097_points_is_taken_and_of_4098_refused_3() {
+    let most = long_line(4_097);
+    Lent::built(&most);
+    assert_eq!(refused(&long_line(4_098), 90_200), (3, 0));
+    let mut odd = long_line(4_098);
+    odd.push(0);
+    assert_eq!(refused(&odd, 90_200), (1, 0), "1 is checked before 3");
+}
+
+#[test]
+fn coordinates_at_the_limit_are_taken_and_past_it_refused_4_at_the_lowest_point() {
+    for limit in [16_383, -16_383] {
+        taken(&[0, 0, limit, 1, 1, limit, limit, limit], 99);
+    }
+    for past in [16_384, -16_384, i32::MAX, i32::MIN] {
+        for place in 0..4 {
+            for coordinate in 0..2 {
+                let mut points = vec![0, 0, 1, 1, 2, 0, 3, 1];
+                points[2 * place + coordinate] = past;
+                assert_eq!(refused(&points, 99), (4, place as u64));
+                points[7] = past;
+                assert_eq!(
+                    refused(&points, 99),
+                    (4, place as u64),
+                    "the lowest point decides"
+                );
+            }
+        }
+    }
+}
+
+#[test]
+fn equal_neighbours_are_refused_5_at_the_lower_point_after_all_of_4() {
+    let points = [0, 0, 1, 1, 2, 0, 3, 1];
+    for place in 0..3 {
+        let mut equal = points;
+        equal.copy_within(2 * place..2 * place + 2, 2 * place + 2);
+        assert_eq!(refused(&equal, 99), (5, place as u64));
+        equal.copy_within(4..6, 6);
+        assert_eq!(
+            refused(&equal, 99),
+            (5, place as u64),
+            "the lower point decides"
+        );
+    }
+    assert_eq!(
+        refused(&[0, 0, 0, 0, 16_384, 0], 99),
+        (4, 2),
+        "4 before 5 over the whole line"
+    );
+    taken(&[0, 0, 1, 1, 0, 0], 99);
+}
+
+#[test]
+fn a_table_one_number_short_is_refused_6_and_an_exact_or_longer_one_serves() {
+    assert_eq!(refused(&L, 0), (6, 0));
+    assert_eq!(refused(&L, 32), (6, 0));
+    assert_eq!(refused(&[0, 0, 0, 0], 0), (5, 0), "5 before 6");
+    let exact = taken(&L, 33);
+    assert_eq!(
+        exact,
+        [
+            0, 2, 1, 0, 24, 0, 64, 0, 8, 0, 3, 0, 1, -1, 0, 0, 0, 25, 0, 4, 0, 3, 1, 2, -1, 0, 0,
+            0, 25, 4, 8, 0, 3
+        ]
+    );
+    assert_eq!(taken(&L, 50)[..33], exact);
+}
+
+#[test]
+fn the_worst_line_builds_with_every_split_at_an_end() {
+    // of the points on the other side of the chord the last is always the farthest from it
+    let points: Vec<i32> = (0..4_097)
+        .flat_map(|k| [3 * k, if k % 2 == 0 { 3 * k } else { -3 * k }])
+        .collect();
+    let worst = Lent::built(&points);
+    for row in 0..4_095 {
+        let (last, split) = (worst.table[11 * row + 1], worst.table[11 * row + 2]);
+        assert_eq!((last, split), (4_096 - row as i32, 4_095 - row as i32));
+    }
+}
+
+#[test]
+fn tables_are_those_of_the_second_reading() {
+    let mut dice = Dice(20_261_115);
+    for round in 0..3_000 {
+        let half = dice.one_of(&[1, 2, 5, 40, 1_000, 16_383]);
+        let segments = if round % 100 == 0 {
+            300
+        } else {
+            1 + (round % 24)
+        };
+        let points = dice.line(segments, half);
+        Lent::built(&points);
+        Lent::built(&dice.ring(segments.max(3), half));
+    }
+}

@@ -1,0 +1,193 @@
+//! The four questions on built tables: word, visits, refusal, line and place are those of the second reading, and a decided
+//! word is the plain geometry's.
+
+use compare::{agree, inside, meet, near, Dice, Lent};
+use kneukelboom::lent::word;
+use second::geometry::{plain_astray, plain_meet, plain_near, plain_side, Point, Side};
+
+const ENOUGH: u32 = u32::MAX;
+
+fn allowances(exact: u32) -> [u32; 5] {
+    [0, 1, exact.saturating_sub(1), exact, ENOUGH]
+}
+
+#[test]
+fn near_is_the_plain_answer_and_counts_as_the_second_reading() {
+    let mut dice = Dice(2);
+    for round in 0..4_000 {
+        let half = dice.one_of(&[2, 6, 40, 16_383]);
+        let line = Lent::built(&dice.line(1 + round % 30, half));
+        let z = Point {
+            x: dice.within(-half, half),
+            y: dice.within(-half, half),
+        };
+        let d = dice.one_of(&[0, 1, half / 3, half, 32_767]);
+        let reply = near(&line, z.x, z.y, d, ENOUGH);
+        assert_eq!(reply.word == word::YES, plain_near(&line.points, z, d));
+        for allowance in allowances(reply.visits) {
+            let again = near(&line, z.x, z.y, d, allowance);
+            assert_eq!(again.word == word::UNDECIDED, allowance < reply.visits);
+        }
+    }
+}
+
+#[test]
+fn near_checks_7_before_8_and_both_after_the_lengths() {
+    let line = Lent::built(&[0, 0, 4, 3, 8, 0]);
+    for (x, y, d, number) in [
+        (4, 5, -1, 7),
+        (4, 5, 32_768, 7),
+        (16_384, 0, -1, 7),
+        (16_384, 0, 2, 8),
+        (0, i32::MIN, 2, 8),
+    ] {
+        assert_eq!(near(&line, x, y, d, 9).number, number);
+    }
+    assert_eq!(near(&line, 4, 5, 32_767, 9).word, word::YES);
+    let mut short = line.clone();
+    short.table.truncate(32);
+    assert_eq!(near(&short, 16_384, 0, -1, 9).number, 6);
+}
+
+#[test]
+fn meet_is_the_plain_answer_both_ways_round() {
+    let mut dice = Dice(3);
+    for round in 0..4_000 {
+        let half = dice.one_of(&[2, 5, 30, 16_383]);
+        let a = Lent::built(&dice.line(1 + round % 17, half));
+        let b = Lent::built(&dice.line(1 + round % 13, half));
+        let reply = meet(&a, &b, ENOUGH);
+        assert_eq!(reply.word == word::YES, plain_meet(&a.points, &b.points));
+        assert_eq!(meet(&b, &a, ENOUGH).word, reply.word);
+        for allowance in allowances(reply.visits) {
+            assert_eq!(
+                meet(&a, &b, allowance).word == word::UNDECIDED,
+                allowance < reply.visits
+            );
+        }
+    }
+}
+
+#[test]
+fn touching_overlapping_crossing_nested_and_zigzag_lines_meet_as_plain_geometry_says() {
+    let lines: Vec<Lent> = [
+        &[0, 0, 10, 0][..],
+        &[10, 0, 20, 0],
+        &[5, 0, 15, 0],
+        &[11, 0, 20, 0],
+        &[0, 0, 10, 10],
+        &[0, 10, 10, 0],
+        &[5, 5, 6, 7],
+        &[5, 4, 6, 5, 7, 4],
+        &[3, 0, 3, 5],
+        &[0, 1, 10, 1, 10, 2, 0, 2, 0, 3, 10, 3],
+        &[-5, -5, 15, -5, 15, 15, -5, 15, -5, -5],
+        &[0, 0, 1, 4, 2, 0, 3, 4, 4, 0, 5, 4],
+        &[0, 5, 1, 1, 2, 5, 3, 1, 4, 5],
+    ]
+    .into_iter()
+    .map(Lent::built)
+    .collect();
+    for a in &lines {
+        for b in &lines {
+            assert_eq!(
+                meet(a, b, ENOUGH).word == word::YES,
+                plain_meet(&a.points, &b.points)
+            );
+        }
+    }
+}
+
+fn side_word(side: Side) -> u32 {
+    match side {
+        Side::Inside => word::INSIDE,
+        Side::Outside => word::OUTSIDE,
+        Side::On => word::ON,
+    }
+}
+
+#[test]
+fn inside_is_the_plain_side_of_any_ring() {
+    let mut dice = Dice(4);
+    for round in 0..4_000 {
+        let half = dice.one_of(&[2, 4, 9, 60, 16_383]);
+        let ring = Lent::built(&dice.ring(3 + round % 20, half));
+        let z = Point {
+            x: dice.within(-half, half),
+            y: dice.within(-half, half),
+        };
+        let reply = inside(&ring, z.x, z.y, ENOUGH);
+        assert_eq!(reply.word, side_word(plain_side(&ring.points, z)));
+        for allowance in allowances(reply.visits) {
+            assert_eq!(
+                inside(&ring, z.x, z.y, allowance).word == word::UNDECIDED,
+                allowance < reply.visits
+            );
+        }
+    }
+}
+
+#[test]
+fn rays_through_corners_along_edges_and_wound_rings_count_as_plain_geometry_says() {
+    let rings: Vec<Lent> = [
+        &[4, 0, 8, 4, 4, 8, 0, 4, 4, 0][..],
+        &[0, 0, 8, 0, 8, 4, 4, 4, 4, 8, 0, 8, 0, 0],
+        &[0, 0, 8, 0, 8, 8, 6, 4, 4, 8, 2, 4, 0, 8, 0, 0],
+        &[0, 0, 8, 8, 8, 0, 0, 8, 0, 0],
+        &[0, 0, 8, 0, 8, 8, 0, 8, 0, 0, 8, 0, 8, 8, 0, 8, 0, 0],
+        &[0, 0, 8, 0, 0, 0, 0, 4, 0, 0],
+    ]
+    .into_iter()
+    .map(Lent::built)
+    .collect();
+    for ring in &rings {
+        for x in -1..=9 {
+            for y in -1..=9 {
+                assert_eq!(
+                    inside(ring, x, y, ENOUGH).word,
+                    side_word(plain_side(&ring.points, Point { x, y }))
+                );
+            }
+        }
+    }
+}
+
+#[test]
+fn a_ring_of_4_points_is_taken_of_3_and_an_open_line_refused_9() {
+    assert_eq!(
+        inside(&Lent::built(&[0, 0, 4, 0, 4, 4, 0, 0]), 3, 1, 9).word,
+        word::INSIDE
+    );
+    assert_eq!(inside(&Lent::built(&[0, 0, 4, 0, 0, 0]), 3, 1, 9).number, 9);
+    assert_eq!(
+        inside(&Lent::built(&[0, 0, 4, 0, 4, 4, 0, 4]), 3, 1, 9).number,
+        9
+    );
+    assert_eq!(
+        inside(&Lent::built(&[0, 0, 4, 0, 0, 0]), 16_384, 1, 9).number,
+        8,
+        "8 before 9"
+    );
+}
+
+#[test]
+fn agree_is_the_plain_answer_and_names_the_first_point_astray() {
+    let mut dice = Dice(5);
+    for round in 0..2_000 {
+        let half = dice.one_of(&[2, 6, 40, 16_383]);
+        let a = Lent::built(&dice.line(1 + round % 9, half));
+        let b = Lent::built(&dice.line(1 + round % 11, half));
+        let d = dice.one_of(&[0, 1, half / 2, half, 32_767]);
+        let reply = agree(&a, &b, d, ENOUGH);
+        assert_eq!(
+            reply.word == word::YES,
+            plain_astray(&a.points, &b.points, d).is_none()
+        );
+        for allowance in allowances(reply.visits) {
+            assert_eq!(
+                agree(&a, &b, d, allowance).word == word::UNDECIDED,
+                allowance < reply.visits
+            );
+        }
+    }
+}

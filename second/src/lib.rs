@@ -1,0 +1,8 @@
+//! An independent reading of document 01: plain geometry over all segments beside a strip tree with its own walks.
+//! The binary answers question files; tests elsewhere hold the proved library against these functions.
+
+pub mod generate;
+pub mod geometry;
+pub mod program;
+pub mod tree;
+pub mod walk;
