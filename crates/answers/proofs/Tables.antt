@@ -1,0 +1,68 @@
+-- A table with room refuses what the described table refuses, and so what a build says is what `withTable` goes by.
+use mathlib.Core.Path.{_≡_, sym, ap, _∙_}
+use mathlib.Core.Bool.{Bool, false, cond}
+use mathlib.Core.List.{List, [], _∷_, _++_}
+use mathlib.Core.Option.{Option, none}
+use mathlib.Core.Logic.{⊎-elim}
+use Prim.Native.Nat.{ℕ, _*_, _≤_}
+use native.Mathlib.Omega.{arith}
+use borrow.Author.Tests.{le-ltb}
+use lib.IntN.{ℤ}
+use lib.ListN.{length}
+use lib.Seq.{length-take-le}
+use Rattle.rules.specs.declared.Line.{Line}
+use Rattle.rules.specs.declared.Line.the-variants.{LineA}
+use Rattle.rules.specs.declared.Refusal.{Refusal}
+use Rattle.rules.specs.Sheet.{pointsOf, fewest}
+use Rattle.rules.specs.Reply.{Reply, firstRefusal}
+use Rattle.rules.specs.Rows.{pointChecks}
+use Rattle.rules.specs.Build.{sheetCheck, neighbourCheck, buildRefusal, tableOf, builtTable}
+use Rattle.built.specs.Accepted.{rowNumbers}
+use Rattle.built.proofs.Rows.{≤-or->}
+use Rattle.built.proofs.Refusals.{accepted}
+use Rattle.built.proofs.Table.{table-length, built-rows, built-length}
+use Rattle.desk.specs.declared.Held.{Held}
+use Rattle.desk.specs.Desk.{Store, refusedAt, onBuild, withTable}
+use Rattle.desk.specs.Kept.{storeIn, Stored, tableRoom}
+use Rattle.answers.specs.Readied.{Rows}
+
+-- ---------------- a refusal does not depend on a table that is long enough
+
+abbrev refusalIf : List ℤ → Bool → Option Refusal
+refusalIf ps short =
+    firstRefusal (pointChecks LineA ps ++ sheetCheck ps ∷ neighbourCheck ps ∷ record { holds = short; number = 6; line = LineA; place = 0 } ∷ [])
+
+room-refusal : (ps t : List ℤ) → rowNumbers ps ≤ length t → buildRefusal ps t ≡ refusalIf ps false
+unfolding buildRefusal
+room-refusal ps t h = ap (refusalIf ps) (le-ltb (length t) (rowNumbers ps) h)
+
+-- the described table has room for its own rows
+own-room : (ps : List ℤ) → rowNumbers ps ≤ length (tableOf ps)
+own-room ps = ⊎-elim (λ h. omega (arith, table-length ps h)) (λ h. omega arith) (≤-or-> fewest (pointsOf ps))
+
+same-refusal : (ps t : List ℤ) → rowNumbers ps ≤ length t → buildRefusal ps t ≡ buildRefusal ps (tableOf ps)
+same-refusal ps t h = room-refusal ps t h ∙ sym (room-refusal ps (tableOf ps) (own-room ps))
+
+-- ---------------- the table of a store
+
+-- the rows of a store's points fit a table for 257 points
+pub rows-fit : (h : Held) (numbers t : List ℤ) → Stored h numbers → length t ≡ tableRoom → rowNumbers (storeIn h numbers .points) ≤ length t
+rows-fit h numbers t s e =
+    omega (arith, length-take-le (2 * h .count) numbers (omega (arith, s .whole, s .counted)), s .counted)
+
+-- where the build refuses nothing, the rows stand in the table
+pub rows-stand : (ps t : List ℤ) → buildRefusal ps t ≡ none → Rows ps (builtTable ps t)
+rows-stand ps t e = record {
+  enough = accepted ps t e .enough;
+  fits = omega (arith, built-length ps t, accepted ps t e .room);
+  front = built-rows ps t e;
+}
+
+-- 13 in place of the build, what the build refuses, or the question
+pub with-table : (l : Line) (s : Store) (place : ℕ) (go : List ℤ → Reply) (t : List ℤ) {over : Bool} {o : Option Refusal}
+    → rowNumbers (s .points) ≤ length t → s .over ≡ over → buildRefusal (s .points) t ≡ o
+    → cond over (refusedAt 13 l place) (onBuild l o (go (tableOf (s .points)))) ≡ withTable l s place go
+unfolding withTable
+with-table l s place go t h p q =
+    let r = sym (same-refusal (s .points) t h) ∙ q in
+    sym (λ i. cond (p i) (refusedAt 13 l place) (onBuild l (r i) (go (tableOf (s .points)))))

@@ -1,0 +1,81 @@
+-- `inside_said`: a refusal is told; else IN is asked of the points and of just their rows.
+use mathlib.Core.Path.{_∙_}
+use mathlib.Core.List.{List}
+use lib.IntN.{ℤ}
+use Rattle.rules.specs.Reply.{Reply}
+use Rattle.rules.specs.Questions.{inReply}
+use Rattle.desk.specs.Kept.{storeIn}
+use Rattle.answers.proofs.Goes.{goes, asked, stands}
+use borrow.Author.Needs.{needs}
+use Rattle.answers.proofs.inside_said.Statement.{statement}
+use Rattle.answers.proofs.inside_said.Tie as tie
+
+abbrev points : tie.Start → List ℤ
+points s = storeIn (s .args .held) (s .args .points .now) .points
+
+abbrev ask : tie.Start → List ℤ → List ℤ → Reply
+ask s ps t = inReply ps t (s .args .z) (s .args .allowance)
+
+ready-requires : tie.Need-ready-requires
+ready-requires c κs = search needs
+
+enum-known-readied : tie.Need-enum-known-readied
+enum-known-readied c = search needs
+
+same-length : tie.Need-same-length
+same-length c = search needs
+
+returns : tie.Need-returns
+returns c =
+    let s = c .before .before .before .before .before .before in
+    let r = c .before .before .before .before .ready in
+    (goes (c .before .readied .given .1) (points s) (ask s (points s)) (r .ensures .0 (ask s (points s))), r .ensures .1 .1)
+
+enum-told : tie.Need-enum-told
+enum-told c = search needs
+
+stored-requires : tie.Need-stored-requires
+stored-requires c κs = search needs
+
+rows-requires : tie.Need-rows-requires
+rows-requires c κs =
+    let t = c .before .before in
+    stands (c .before .stored .ensures) (t .enum-told .given .1) (t .before .before .before .ready .ensures .1 .0)
+
+inside-requires : tie.Need-inside-requires
+inside-requires c κs = search needs
+
+of-side-requires : tie.Need-of-side-requires
+of-side-requires c κs = search needs
+
+same-length-2 : tie.Need-same-length-2
+same-length-2 c = search needs
+
+returns-2 : tie.Need-returns-2
+returns-2 c =
+    let t = c .before .before .before .before .before in
+    let r = t .before .before .before .ready in
+    let s = t .before .before .before .before .before in
+    let line = c .before .before .before .before .stored in
+    let rows = c .before .before .rows in (
+      c .of-side .ensures
+          ∙ c .before .inside .ensures
+          ∙ asked (ask s) (line .ensures) (rows .ensures) (t .enum-told .given .1) (r .ensures .0 (ask s (points s))),
+      r .ensures .1 .1,
+    )
+
+pub inside-said-spec : {M : Type 1} → statement M
+inside-said-spec =
+    tie.close
+    (tie.spec
+    ready-requires
+    enum-known-readied
+    same-length
+    returns
+    enum-told
+    stored-requires
+    rows-requires
+    inside-requires
+    of-side-requires
+    same-length-2
+    returns-2)

@@ -1,0 +1,79 @@
+-- `ready_both`: what A tells is told; where A is ready, what comes of B decides.
+use mathlib.Core.Path.{refl, sym, _∙_, subst⁻¹}
+use mathlib.Core.List.{List}
+use lib.IntN.{ℤ}
+use Rattle.rules.specs.declared.Line.the-variants.{LineB}
+use Rattle.rules.specs.Reply.{Reply}
+use Rattle.rules.specs.Build.{tableOf}
+use Rattle.desk.specs.Desk.{Store, withTable}
+use Rattle.desk.specs.Kept.{storeIn}
+use Rattle.answers.specs.declared.Readied.{Readied}
+use Rattle.answers.specs.Readied.{IfReady}
+use Rattle.answers.proofs.Goes.{goes, stands, stands-still}
+use borrow.Author.Needs.{needs}
+use Rattle.answers.proofs.ready_both.Statement.{statement}
+use Rattle.answers.proofs.ready_both.Tie as tie
+
+abbrev storeA : tie.Start → Store
+storeA s = storeIn (s .args .held-a) (s .args .points-a .now)
+
+abbrev storeB : tie.Start → Store
+storeB s = storeIn (s .args .held-b) (s .args .points-b .now)
+
+-- what is asked of A: to go on with B
+abbrev onwards : tie.Start → (List ℤ → List ℤ → Reply) → List ℤ → Reply
+onwards s go t = withTable LineB (storeB s) (s .args .place) (go t)
+
+ready-requires : tie.Need-ready-requires
+ready-requires c κs = search needs
+
+enum-told : tie.Need-enum-told
+enum-told c = search needs
+
+enum-told-2 : tie.Need-enum-told-2
+enum-told-2 c = search needs
+
+same-length : tie.Need-same-length
+same-length c = search needs
+
+returns : tie.Need-returns
+returns c =
+    let s = c .before .before .before .before .before in
+    let r = c .before .before .before .ready in
+    let e = c .enum-told2 .given .1 in (
+      λ go. goes (sym e) (storeB s .points) (go (tableOf (storeA s .points))) (goes e (storeA s .points) (onwards s go) (r .ensures .0 (onwards s go))),
+      (r .ensures .1 .0, (subst⁻¹ (λ (x : Readied). IfReady x (storeB s .points) (s .args .table-b .now)) e tt, (r .ensures .1 .1, refl))),
+    )
+
+ready-requires-2 : tie.Need-ready-requires-2
+ready-requires-2 c κs = search needs
+
+same-length-2 : tie.Need-same-length-2
+same-length-2 c = search needs
+
+same-length-3 : tie.Need-same-length-3
+same-length-3 c = search needs
+
+returns-2 : tie.Need-returns-2
+returns-2 c =
+    let s = c .before .before .before .before .before .before .before .before in
+    let r = c .before .before .before .before .before .before .ready in
+    let e = c .before .before .before .enum-told .given .1 in
+    let q = c .before .ready2 in (
+      λ go. q .ensures .0 (go (tableOf (storeA s .points))) ∙ goes e (storeA s .points) (onwards s go) (r .ensures .0 (onwards s go)),
+      (stands-still (q .result) (stands refl e (r .ensures .1 .0)), (q .ensures .1 .0, (r .ensures .1 .1, q .ensures .1 .1))),
+    )
+
+pub ready-both-spec : {M : Type 1} → statement M
+ready-both-spec =
+    tie.close
+    (tie.spec
+    ready-requires
+    enum-told
+    enum-told-2
+    same-length
+    returns
+    ready-requires-2
+    same-length-2
+    same-length-3
+    returns-2)

@@ -1,0 +1,34 @@
+-- What readying the tables of a question comes to, in the words of the definitions.
+use mathlib.Core.Path.{_≡_}
+use mathlib.Core.List.{List}
+use Prim.Native.Nat.{ℕ, _≤_}
+use lib.IntN.{ℤ}
+use lib.ListN.{length, take}
+use Rattle.rules.specs.declared.Line.the-variants.{LineA, LineB}
+use Rattle.rules.specs.Sheet.{pointsOf, fewest}
+use Rattle.rules.specs.Reply.{Reply}
+use Rattle.rules.specs.Build.{tableOf}
+use Rattle.built.specs.Accepted.{rowNumbers}
+use Rattle.print.specs.Said.{saidReply}
+use Rattle.desk.specs.Desk.{Store, withTable}
+use Rattle.answers.specs.declared.Readied.{Readied}
+use Rattle.answers.specs.declared.Readied.the-variants.{Ready, Told}
+
+-- ---- a question of one line goes on with its table, or a refusal is told
+abbrev pub readiedReply : Readied → List ℤ → (List ℤ → Reply) → Reply
+readiedReply Ready ps go = go (tableOf ps)
+readiedReply (Told said) ps go = saidReply said
+
+-- the rows of a line stand at the front of its table
+pub record Rows (ps t : List ℤ) : Type 0 where
+  pub enough : fewest ≤ pointsOf ps
+  pub fits : rowNumbers ps ≤ length t
+  pub front : take (rowNumbers ps) t ≡ tableOf ps
+
+abbrev pub IfReady : Readied → List ℤ → List ℤ → Type 0
+IfReady Ready ps t = Rows ps t
+IfReady (Told said) ps t = Unit {0}
+
+-- ---- a question of both lines: A's table, then B's
+abbrev pub withBoth : Store → Store → ℕ → (List ℤ → List ℤ → Reply) → Reply
+withBoth a b place go = withTable LineA a place (λ t. withTable LineB b place (λ t′. go t t′))
