@@ -1,0 +1,150 @@
+//! The same calls over lent slices: no heap, nothing copied, any table.
+//!
+//! For those who keep points and tables in memory of their own. Points lie as x, y, x, y. Every call takes
+//! every input: damaged or foreign tables get refusal 10 where a row that is read is bad. [`crate::Line`] is
+//! the same with vectors of its own.
+//!
+//! ```
+//! use kneukelboom::{lent, Answer};
+//!
+//! let points = [0, 0, 4, 3, 8, 0];
+//! let mut table = [0; lent::table_len(6)];
+//! lent::build(&points, &mut table).built()?;
+//! let near = lent::near(&points, &table, 4, 5, 2, 10).answer()?;
+//! assert_eq!(near, Answer::Yes { visits: 2 });
+//!
+//! table[0] = 7; // the first row now says that it begins at point 7
+//! let refusal = lent::near(&points, &table, 4, 5, 2, 10).answer().unwrap_err();
+//! assert_eq!(refusal.to_string(), "refused 10: row 0 of the table of line A is bad (visit 1)");
+//! # Ok::<(), kneukelboom::Refusal>(())
+//! ```
+
+use crate::answer::{Agreement, Answer, Side};
+use crate::refusal::{Name, Refusal};
+
+pub use crate::ffi::{agree, build, inside, meet, near};
+
+/// The words of a [`Reply`], as in `kneukelboom.h`.
+pub mod word {
+    pub const BUILT: u32 = 0;
+    pub const YES: u32 = 1;
+    pub const NO: u32 = 2;
+    pub const INSIDE: u32 = 3;
+    pub const OUTSIDE: u32 = 4;
+    pub const ON: u32 = 5;
+    pub const UNDECIDED: u32 = 6;
+    pub const REFUSED: u32 = 7;
+}
+
+/// The lines of a [`Reply`], as in `kneukelboom.h`.
+pub mod line {
+    pub const NO_LINE: u32 = 0;
+    pub const LINE_A: u32 = 1;
+    pub const LINE_B: u32 = 2;
+}
+
+/// How many numbers the table of a line needs whose points are so many numbers: 11 * (2n-1) for n segments.
+pub const fn table_len(points_len: usize) -> usize {
+    if points_len < 4 {
+        0
+    } else {
+        11 * (points_len - 3)
+    }
+}
+
+/// What a call answers, in plain numbers; the methods read it as an enum.
+#[repr(C)]
+#[derive(Clone, Copy, PartialEq, Eq, Debug)]
+pub struct Reply {
+    /// One of [`word`].
+    pub word: u32,
+    /// Visits made; with undecided, the allowance; 0 where a refusal comes before the walk.
+    pub visits: u32,
+    /// Of the refusal, or 0.
+    pub number: u32,
+    /// One of [`mod@line`].
+    pub line: u32,
+    /// Of the refusal, or the point of agree's no, or 0.
+    pub place: u64,
+}
+
+impl Reply {
+    /// Of [`build`].
+    ///
+    /// # Panics
+    /// If this is the reply of a question.
+    pub fn built(self) -> Result<(), Refusal> {
+        match self.decided()? {
+            word::BUILT => Ok(()),
+            other => unreachable!("a build does not say word {other}"),
+        }
+    }
+
+    /// Of [`near`] and [`meet`].
+    ///
+    /// # Panics
+    /// If this is the reply of another call.
+    pub fn answer(self) -> Result<Answer, Refusal> {
+        let visits = self.visits;
+        Ok(match self.decided()? {
+            word::YES => Answer::Yes { visits },
+            word::NO => Answer::No { visits },
+            word::UNDECIDED => Answer::Undecided { visits },
+            other => unreachable!("near and meet do not say word {other}"),
+        })
+    }
+
+    /// Of [`inside`].
+    ///
+    /// # Panics
+    /// If this is the reply of another call.
+    pub fn side(self) -> Result<Side, Refusal> {
+        let visits = self.visits;
+        Ok(match self.decided()? {
+            word::INSIDE => Side::Inside { visits },
+            word::OUTSIDE => Side::Outside { visits },
+            word::ON => Side::On { visits },
+            word::UNDECIDED => Side::Undecided { visits },
+            other => unreachable!("inside does not say word {other}"),
+        })
+    }
+
+    /// Of [`agree`].
+    ///
+    /// # Panics
+    /// If this is the reply of another call.
+    pub fn agreement(self) -> Result<Agreement, Refusal> {
+        let visits = self.visits;
+        Ok(match (self.decided()?, self.name()) {
+            (word::YES, _) => Agreement::Yes { visits },
+            (word::NO, Some(line)) => Agreement::No {
+                line,
+                point: self.place as usize,
+                visits,
+            },
+            (word::UNDECIDED, _) => Agreement::Undecided { visits },
+            (other, line) => unreachable!("agree does not say word {other}, line {line:?}"),
+        })
+    }
+
+    /// The word, unless it is a refusal.
+    fn decided(self) -> Result<u32, Refusal> {
+        if self.word != word::REFUSED {
+            return Ok(self.word);
+        }
+        Err(Refusal {
+            number: self.number,
+            line: self.name(),
+            place: self.place as usize,
+            visits: self.visits,
+        })
+    }
+
+    fn name(self) -> Option<Name> {
+        match self.line {
+            line::LINE_A => Some(Name::A),
+            line::LINE_B => Some(Name::B),
+            _ => None,
+        }
+    }
+}

@@ -1,0 +1,243 @@
+//! Verified strip trees over whole-number lines.
+//!
+//! A [`Line`] is a list of points in sheet units of 1/16 metre with its strip tree. It is asked whether a point
+//! is near it, whether it meets another line, whether a point lies inside it, and whether it agrees with
+//! another line. The code behind each answer is proved, for every input: a no is said only where plain
+//! geometry over all the original segments says no, and a search that runs out of its allowance of visits
+//! says [`Answer::Undecided`], never no.
+//!
+//! ```
+//! use kneukelboom::{Agreement, Answer, Line, Name};
+//!
+//! let sketch = Line::new(&[(0, 0), (160, 120), (320, 0), (480, 0), (640, 0)])?;
+//! let survey = Line::new(&[(0, 10), (160, 130), (320, 10)])?;
+//!
+//! // Within a metre of the sketch?
+//! assert_eq!(sketch.near((160, 130), 16, 100)?, Answer::Yes { visits: 2 });
+//! // One visit does not settle it.
+//! assert_eq!(sketch.near((160, 130), 16, 1)?, Answer::Undecided { visits: 1 });
+//!
+//! // Agreement is asked both ways: the survey lies along the sketch, but reaches only half of it.
+//! assert_eq!(
+//!     sketch.agrees(&survey, 16, sketch.enough_to_agree(&survey))?,
+//!     Agreement::No { line: Name::A, point: 3, visits: 8 },
+//! );
+//! # Ok::<(), kneukelboom::Refusal>(())
+//! ```
+//!
+//! What is refused prints as a sentence:
+//!
+//! ```
+//! # use kneukelboom::Line;
+//! let line = Line::new(&[(0, 0), (4, 3), (8, 0)])?;
+//! let refusal = line.near((4, 5), 40_000, 9).unwrap_err();
+//! assert_eq!(refusal.to_string(), "refused 7: the distance is not from 0 to 32,767");
+//! # Ok::<(), kneukelboom::Refusal>(())
+//! ```
+//!
+//! [`lent`] has the same calls over slices that the caller lends: no heap, nothing copied.
+#![deny(unsafe_code)]
+
+mod answer;
+#[allow(unsafe_code)]
+mod ffi;
+pub mod lent;
+mod refusal;
+
+pub use answer::{Agreement, Answer, Side};
+pub use refusal::{Name, Refusal};
+
+/// The examples of the README are tests too.
+#[cfg(doctest)]
+#[doc = include_str!("../README.md")]
+struct Readme;
+
+/// Points of a line: at least 2 ..
+pub const FEWEST_POINTS: usize = 2;
+/// .. and at most 4,097.
+pub const MOST_POINTS: usize = 4_097;
+/// Coordinates are -16,383 to 16,383.
+pub const SHEET: i32 = 16_383;
+/// Distances are 0 to 32,767.
+pub const FARTHEST: i32 = 32_767;
+
+/// The archive that was linked.
+#[doc(hidden)]
+pub const ARCHIVE: &str = env!("KNEUKELBOOM_ARCHIVE");
+
+/// A line with its strip tree.
+///
+/// Only lines that were built exist, so the questions refuse no more than a distance (7), an asked point (8)
+/// or a line that is no ring (9).
+#[derive(Clone, PartialEq, Eq, Debug)]
+pub struct Line {
+    /// x, y, x, y
+    points: Vec<i32>,
+    table: Vec<i32>,
+}
+
+impl Line {
+    /// A line through these points, with its tree.
+    ///
+    /// Refused are fewer than 2 or more than 4,097 points, a coordinate off the sheet, and neighbours that are equal.
+    ///
+    /// ```
+    /// # use kneukelboom::Line;
+    /// let refusal = Line::new(&[(0, 0), (4, 3), (4, 3)]).unwrap_err();
+    /// assert_eq!((refusal.number, refusal.place), (5, 1));
+    /// assert_eq!(refusal.to_string(), "refused 5: points 1 and 2 of line A are equal");
+    /// ```
+    pub fn new(points: &[(i32, i32)]) -> Result<Line, Refusal> {
+        Line::from_numbers(points.iter().flat_map(|&(x, y)| [x, y]).collect())
+    }
+
+    /// The same from coordinates x, y, x, y; the vector is kept, not copied.
+    ///
+    /// ```
+    /// # use kneukelboom::Line;
+    /// assert_eq!(Line::from_numbers(vec![0, 0, 4, 3])?, Line::new(&[(0, 0), (4, 3)])?);
+    /// assert_eq!(Line::from_numbers(vec![0, 0, 4]).unwrap_err().number, 1);
+    /// # Ok::<(), kneukelboom::Refusal>(())
+    /// ```
+    pub fn from_numbers(points: Vec<i32>) -> Result<Line, Refusal> {
+        // A line that is too long is refused before its table is looked at: no need for the room.
+        let most = lent::table_len(2 * MOST_POINTS);
+        let mut table = vec![0; lent::table_len(points.len()).min(most)];
+        lent::build(&points, &mut table).built()?;
+        Ok(Line { points, table })
+    }
+
+    /// The coordinates, x, y, x, y.
+    pub fn points(&self) -> &[i32] {
+        &self.points
+    }
+
+    /// The rows of the tree in preorder, 11 numbers each.
+    pub fn table(&self) -> &[i32] {
+        &self.table
+    }
+
+    /// n, one less than the points.
+    pub fn segments(&self) -> usize {
+        self.points.len() / 2 - 1
+    }
+
+    /// Is a point within the distance of some segment of this line? Exactly that far is within.
+    ///
+    /// [`enough_visits`](Line::enough_visits) is an allowance that always decides.
+    ///
+    /// ```
+    /// # use kneukelboom::{Answer, Line};
+    /// let line = Line::new(&[(0, 0), (4, 3), (8, 0)])?;
+    /// assert_eq!(line.near((4, 5), 2, 10)?, Answer::Yes { visits: 2 });
+    /// assert_eq!(line.near((4, 5), 1, 10)?, Answer::No { visits: 1 });
+    /// assert_eq!(line.near((4, 5), 2, 1)?.decided(), None);
+    /// # Ok::<(), kneukelboom::Refusal>(())
+    /// ```
+    pub fn near(
+        &self,
+        point: (i32, i32),
+        distance: i32,
+        allowance: u32,
+    ) -> Result<Answer, Refusal> {
+        let (x, y) = (point.0.into(), point.1.into());
+        lent::near(&self.points, &self.table, x, y, distance.into(), allowance).answer()
+    }
+
+    /// On which side of this ring is a point?
+    ///
+    /// A ring has at least 4 points and ends where it begins; inside is odd where it crosses itself.
+    /// [`enough_visits`](Line::enough_visits) is an allowance that always decides.
+    ///
+    /// ```
+    /// # use kneukelboom::{Line, Side};
+    /// let square = Line::new(&[(0, 0), (4, 0), (4, 4), (0, 4), (0, 0)])?;
+    /// assert_eq!(square.inside((2, 2), 9)?, Side::Inside { visits: 7 });
+    /// assert_eq!(square.inside((4, 2), 9)?, Side::On { visits: 4 });
+    /// assert_eq!(square.inside((5, 2), 9)?, Side::Outside { visits: 1 });
+    /// # Ok::<(), kneukelboom::Refusal>(())
+    /// ```
+    pub fn inside(&self, point: (i32, i32), allowance: u32) -> Result<Side, Refusal> {
+        let (x, y) = (point.0.into(), point.1.into());
+        lent::inside(&self.points, &self.table, x, y, allowance).side()
+    }
+
+    /// Do this line (A) and another (B) share a point, ends, touches and overlaps included?
+    ///
+    /// [`enough_to_meet`](Line::enough_to_meet) is an allowance that always decides.
+    ///
+    /// ```
+    /// # use kneukelboom::{Answer, Line};
+    /// let line = Line::new(&[(0, 0), (4, 3), (8, 0)])?;
+    /// let short = Line::new(&[(4, 0), (4, 2)])?;
+    /// let long = Line::new(&[(4, 0), (4, 3)])?;
+    /// assert_eq!(line.meets(&short, 9)?, Answer::No { visits: 3 });
+    /// assert_eq!(line.meets(&long, 9)?, Answer::Yes { visits: 2 });
+    /// # Ok::<(), kneukelboom::Refusal>(())
+    /// ```
+    pub fn meets(&self, other: &Line, allowance: u32) -> Result<Answer, Refusal> {
+        lent::meet(
+            &self.points,
+            &self.table,
+            &other.points,
+            &other.table,
+            allowance,
+        )
+        .answer()
+    }
+
+    /// Is each point of this line (A) within the distance of another (B), and each point of B within it of A?
+    ///
+    /// Points are compared with lines, not every place between the points.
+    /// [`enough_to_agree`](Line::enough_to_agree) is an allowance that always decides.
+    ///
+    /// ```
+    /// # use kneukelboom::{Agreement, Line, Name};
+    /// let long = Line::new(&[(0, 0), (100, 0)])?;
+    /// let stub = Line::new(&[(0, 0), (10, 0)])?;
+    /// // Each point of the stub is on the long line, but not the other way round.
+    /// assert_eq!(
+    ///     stub.agrees(&long, 5, 9)?,
+    ///     Agreement::No { line: Name::B, point: 1, visits: 4 },
+    /// );
+    /// assert_eq!(stub.agrees(&long, 90, 9)?, Agreement::Yes { visits: 4 });
+    /// # Ok::<(), kneukelboom::Refusal>(())
+    /// ```
+    pub fn agrees(
+        &self,
+        other: &Line,
+        distance: i32,
+        allowance: u32,
+    ) -> Result<Agreement, Refusal> {
+        lent::agree(
+            &self.points,
+            &self.table,
+            &other.points,
+            &other.table,
+            distance.into(),
+            allowance,
+        )
+        .agreement()
+    }
+
+    /// Visits that always decide [`near`](Line::near) and [`inside`](Line::inside): 2n-1.
+    pub fn enough_visits(&self) -> u32 {
+        2 * self.count() - 1
+    }
+
+    /// Visits that always decide [`meets`](Line::meets): 2nm-1.
+    pub fn enough_to_meet(&self, other: &Line) -> u32 {
+        2 * self.count() * other.count() - 1
+    }
+
+    /// Visits that always decide [`agrees`](Line::agrees): (n+1)(2m-1) + (m+1)(2n-1).
+    pub fn enough_to_agree(&self, other: &Line) -> u32 {
+        let (n, m) = (self.count(), other.count());
+        (n + 1) * (2 * m - 1) + (m + 1) * (2 * n - 1)
+    }
+
+    /// n; at most 4,096, so that every bound fits.
+    fn count(&self) -> u32 {
+        self.segments() as u32
+    }
+}
