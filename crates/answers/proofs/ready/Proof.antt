@@ -34,8 +34,8 @@ refusal c = c .build .ensures .0 ∙ ap (λ (ps : List ℤ). buildRefusal ps (ta
 written : (c : tie.After-build) → c .build .last .1 .0 ≡ builtTable (store (c .before .before .before .before) .points) (table (c .before .before .before .before))
 written c = c .build .ensures .1 ∙ ap (λ (ps : List ℤ). builtTable ps (table (c .before .before .before .before))) (c .before .before .stored .ensures)
 
-same-length-left : (c : tie.After-build) → length (c .build .last .1 .0) ≡ length (table (c .before .before .before .before))
-same-length-left c = ap length (written c) ∙ built-length (store (c .before .before .before .before) .points) (table (c .before .before .before .before))
+length-kept : (c : tie.After-build) → length (c .build .last .1 .0) ≡ length (table (c .before .before .before .before))
+length-kept c = ap length (written c) ∙ built-length (store (c .before .before .before .before) .points) (table (c .before .before .before .before))
 
 refused-requires : tie.Need-refused-requires
 refused-requires c κs = search needs
@@ -66,7 +66,7 @@ returns-2 c =
     let s = b .before .before .before .before in (
       λ go. c .refused2 .ensures
           ∙ with-table (s .args .line) (store s) (s .args .place) go (table s) (fit s) (b .before .before .before .if1 .left) (sym (refusal b) ∙ ap builtRefusal (c .before .before .built .given .1)),
-      (tt, same-length-left b),
+      (tt, length-kept b),
     )
 
 enum-told : tie.Need-enum-told
@@ -82,7 +82,7 @@ returns-3 c =
     let w : b .build .result ≡ Whole = cc in
     let e : buildRefusal (store s .points) (table s) ≡ none = sym (refusal b) ∙ ap builtRefusal w in (
       λ go. with-table (s .args .line) (store s) (s .args .place) go (table s) (fit s) (b .before .before .before .if1 .left) e,
-      (subst (Rows (store s .points)) (sym (written b)) (rows-stand (store s .points) (table s) e), same-length-left b),
+      (subst (Rows (store s .points)) (sym (written b)) (rows-stand (store s .points) (table s) e), length-kept b),
     )
 
 pub ready-spec : {M : Type 1} → statement M
