@@ -12,7 +12,7 @@ use Rattle.rules.specs.Reply.{Reply, early, firstRefusal, orRefused}
 use Rattle.rules.specs.Rows.{lengthChecks, distanceCheck}
 use Rattle.rules.specs.Walk.{fresh}
 use Rattle.rules.specs.Questions.{agreed, agreeWalk, agreeReply}
-use Rattle.near.proofs.Lengths.{orElse, first-append}
+use Rattle.visits.proofs.Checks.{orElse, first-append}
 
 -- refusal 7, by whether the distance fits
 abbrev pub distanceRefusal : ℤ → Bool → Option Refusal

@@ -1,7 +1,7 @@
 // AGREE: whether each point of one line is near the other line, both ways round. Each point is a NEAR walk of its own, and
 // one tally goes through them all; the answer is that of `rules`, for all numbers that the slices can hold.
 use line::Checked;
-use line::Walk;
+use row::Walk;
 use rules::Agreement;
 use rules::Line;
 use rules::Refusal;
@@ -13,8 +13,8 @@ ghost use Rattle.whole.specs.Range.{Abs≤};
 ghost use Rattle.rules.specs.Sheet.{pointsOf, farthest};
 ghost use Rattle.rules.specs.Reply.{agreementReply};
 ghost use Rattle.rules.specs.Questions.{allNear, onNear, askAll, agreeWalk, agreed, agreeReply};
-ghost use Rattle.line.specs.Said.{walked};
-ghost use Rattle.near.specs.Fine.{LengthsFine};
+ghost use Rattle.line.specs.Fine.{LengthsFine};
+ghost use Rattle.row.specs.Said.{walked};
 ghost use Rattle.agree.specs.Said.{asked};
 
 // What asking points of one line against the other comes to.
@@ -141,12 +141,7 @@ pub fn agree(
         return Agreement::Refused(refusal);
     }
     if !near::distance_fits(distance) {
-        return Agreement::Refused(Refusal {
-            number: 7,
-            line: Line::NoLine,
-            place: 0,
-            visits: 0,
-        });
+        return Agreement::Refused(line::early(7, Line::NoLine));
     }
     let fresh = Tally {
         allowance,

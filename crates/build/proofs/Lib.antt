@@ -1,5 +1,4 @@
 -- Laws that the proofs of `build` share.
-pub mod Sizes
 pub mod SoFar
 pub mod Numbers
 pub mod Lowest

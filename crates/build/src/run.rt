@@ -1,19 +1,19 @@
 // A run of points, handed on by itself: its extents and its split point, found in one pass.
 use line::c_at;
 use line::direction;
+use line::greater;
+use line::lesser;
 use line::point_at;
 use line::t_at;
 use rules::Point;
 ghost use mathlib.Core.Path.{_≡_};
 ghost use Prim.Native.Nat.{_≤_, _<_};
 ghost use lib.IntN.{natAbs};
-ghost use Rattle.whole.specs.Order.{minZ, maxZ};
 ghost use Rattle.whole.specs.Range.{Abs≤};
 ghost use Rattle.rules.specs.Plane.{cAt, tAt};
 ghost use Rattle.rules.specs.Sheet.{segmentsOf};
 ghost use Rattle.rules.specs.Tree.{offMiddle};
-ghost use Rattle.line.specs.Small.{OnSheet, Small};
-ghost use Rattle.built.specs.RowRange.{stripMost};
+ghost use Rattle.visits.specs.Small.{OnSheet, Small, widest};
 ghost use Rattle.build.specs.Run.{AllOnSheet, spanOf, spanWith, topWith, startOf, measuredWith, measureOf};
 
 // The least and the greatest of some numbers.
@@ -37,18 +37,6 @@ pub struct Measured {
     pub top: Top,
 }
 
-fn lesser(a: i64, b: i64) -> i64
-    ensures { λ r. ⌜ r ≡ minZ a b ⌝ }
-{
-    if a < b { a } else { b }
-}
-
-fn greater(a: i64, b: i64) -> i64
-    ensures { λ r. ⌜ r ≡ maxZ a b ⌝ }
-{
-    if a < b { b } else { a }
-}
-
 impl Span {
     fn of(v: i64) -> Span
         ensures { λ r. ⌜ r ≡ spanOf v ⌝ }
@@ -68,7 +56,7 @@ impl Span {
 
 // The absolute value of c.
 fn height(c: i64) -> usize
-    requires { ⌜ Abs≤ stripMost c ⌝ }
+    requires { ⌜ Abs≤ widest c ⌝ }
     ensures { λ r. ⌜ r ≡ natAbs c ⌝ }
 {
     if c < 0 {

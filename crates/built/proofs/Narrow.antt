@@ -3,78 +3,46 @@
 use mathlib.Core.Path.{_≡_}
 use mathlib.Core.Bool.{true}
 use mathlib.Core.List.{List, [], _∷_, _++_}
-use Prim.Native.Nat.{ℕ, zero, suc, _*_, _-_, _≤_, _<_}
+use Prim.Native.Nat.{ℕ, zero, suc, _-_, _≤_, _<_}
 use native.Mathlib.Omega.{arith}
-use lib.IntN.{ℤ, pos, negℤ}
+use lib.IntN.{ℤ, pos}
 use mir.Facts.{leb-no}
 use mir.Syntax.{w32}
 use Rattle.whole.specs.Laws.{cond-ind}
-use Rattle.whole.specs.Poly.{_:-_}
 use Rattle.whole.specs.Order.{T-true}
-use Rattle.whole.specs.Range.{Abs≤, Each, nil, _&_, abs-of, within, fits-of}
-use Rattle.rules.specs.declared.Point.{Point}
+use Rattle.whole.specs.Range.{Abs≤, fits-of}
 use Rattle.rules.specs.declared.Row.{Row}
-use Rattle.rules.specs.Plane.{samePoint, step, direction, cAt, tAt}
-use Rattle.rules.specs.Sheet.{point, segmentsOf, most, limit, between, inSheet, onSheet}
+use Rattle.rules.specs.Plane.{direction}
+use Rattle.rules.specs.Sheet.{point, segmentsOf, most, limit, onSheet}
 use Rattle.rules.specs.Tree.{nodeC, nodeT, least, greatest, splitOf, numbers, measured, noSplit, isLeaf, rowsOf}
 use Rattle.rules.specs.Build.{tableOf}
-use Rattle.visits.proofs.Terms.{cE, tE}
-use Rattle.visits.proofs.Held.{number-held}
-use Rattle.built.specs.RowRange.{stripMost, RowRange, AllFit}
+use Rattle.visits.specs.Small.{OnSheet, Small, widest}
+use Rattle.visits.proofs.OnSheets.{on-sheet}
+use Rattle.visits.proofs.Sizes.{direction-small, c-wide, t-wide}
+use Rattle.built.specs.RowRange.{RowRange, AllFit}
 use Rattle.built.specs.Accepted.{Accepted}
 use Rattle.built.proofs.Rows.{split-between}
 use Rattle.built.proofs.Refusals.{_then_, points-on, some-segment}
 use Rattle.built.proofs.Extents.{least-all, greatest-all}
-use Rattle.built.proofs.Measured.{x-on, y-on}
-
--- a coordinate on the sheet
-pub sheet-abs : (v : ℤ) → inSheet v ≡ true → Abs≤ limit v
-unfolding between
-sheet-abs v e = let b = number-held (negℤ (pos limit)) (pos limit) v (T-true e) in abs-of (b .0) (b .1)
-
--- the direction between two points on the sheet
-abbrev Steps : Point → Type 0
-Steps u = Abs≤ (2 * limit) (u .x) × Abs≤ (2 * limit) (u .y)
-
-direction-abs : (a b : Point) → onSheet a ≡ true → onSheet b ≡ true → Steps (direction a b)
-unfolding direction
-direction-abs a b p q =
-    cond-ind (samePoint a b) (record { x = pos 1; y = pos 0 }) (step a b) Steps (λ _. (record { abs = omega arith }, record { abs = omega arith }))
-    (λ _. (
-      within 2 (λ v w. w :- v) (sheet-abs (a .x) (x-on a p) & sheet-abs (b .x) (x-on b q) & nil),
-      within 2 (λ v w. w :- v) (sheet-abs (a .y) (y-on a p) & sheet-abs (b .y) (y-on b q) & nil),
-    ))
-
--- c and t of points on the sheet
-module _ (s u p : Point) (hs : onSheet s ≡ true) (hu : Steps u) (hp : onSheet p ≡ true) where
-  six : Each Abs≤ (2 * limit ∷ 2 * limit ∷ limit ∷ limit ∷ limit ∷ limit ∷ []) (u .x ∷ u .y ∷ s .x ∷ s .y ∷ p .x ∷ p .y ∷ [])
-  six =
-      hu .0 & hu .1
-      & sheet-abs (s .x) (x-on s hs) & sheet-abs (s .y) (y-on s hs)
-      & sheet-abs (p .x) (x-on p hp) & sheet-abs (p .y) (y-on p hp)
-      & nil
-
-  pub c-abs : Abs≤ stripMost (cAt s u p)
-  c-abs = within 6 (λ ux uy sx sy px py. cE sx sy ux uy px py) six
-
-  pub t-abs : Abs≤ stripMost (tAt s u p)
-  t-abs = within 6 (λ ux uy sx sy px py. tE sx sy ux uy px py) six
 
 -- ---------------- the measured row of a run on the sheet
 
 module _ (ps : List ℤ) (first last : ℕ) (order : first ≤ last)
     (on : (i : ℕ) → first ≤ i → i ≤ last → onSheet (point ps i) ≡ true) where
-  run-direction : Steps (direction (point ps first) (point ps last))
-  run-direction = direction-abs (point ps first) (point ps last) (on first (omega arith) order) (on last order (omega arith))
+  on-at : (i : ℕ) → first ≤ i → i ≤ last → OnSheet (point ps i)
+  on-at i h k = on-sheet (point ps i) (T-true (on i h k))
 
-  abbrev u : Point
-  u = direction (point ps first) (point ps last)
+  start-on : OnSheet (point ps first)
+  start-on = on-at first (omega arith) order
 
-  strip-c : (i : ℕ) → first ≤ i → i ≤ last → Abs≤ stripMost (nodeC ps first last (point ps i))
-  strip-c i h k = c-abs (point ps first) u (point ps i) (on first (omega arith) order) run-direction (on i h k)
+  run-direction : Small (direction (point ps first) (point ps last))
+  run-direction = direction-small start-on (on-at last order (omega arith))
 
-  strip-t : (i : ℕ) → first ≤ i → i ≤ last → Abs≤ stripMost (nodeT ps first last (point ps i))
-  strip-t i h k = t-abs (point ps first) u (point ps i) (on first (omega arith) order) run-direction (on i h k)
+  strip-c : (i : ℕ) → first ≤ i → i ≤ last → Abs≤ widest (nodeC ps first last (point ps i))
+  strip-c i h k = c-wide start-on run-direction (on-at i h k)
+
+  strip-t : (i : ℕ) → first ≤ i → i ≤ last → Abs≤ widest (nodeT ps first last (point ps i))
+  strip-t i h k = t-wide start-on run-direction (on-at i h k)
 
   -- what bounds each number of the run bounds the least and the greatest
   module _ (B : ℕ) (f : ℕ → ℤ) (h : (i : ℕ) → first ≤ i → i ≤ last → Abs≤ B (f i)) where
@@ -90,14 +58,14 @@ module _ (ps : List ℤ) (first last : ℕ) (order : first ≤ last)
     first = record { abs = omega arith };
     last = record { abs = few };
     split = h;
-    cmin = least-abs stripMost (λ i. nodeC ps first last (point ps i)) strip-c;
-    cmax = greatest-abs stripMost (λ i. nodeC ps first last (point ps i)) strip-c;
-    tmin = least-abs stripMost (λ i. nodeT ps first last (point ps i)) strip-t;
-    tmax = greatest-abs stripMost (λ i. nodeT ps first last (point ps i)) strip-t;
-    xmin = least-abs limit (λ i. point ps i .x) (λ i a b. sheet-abs (point ps i .x) (x-on (point ps i) (on i a b)));
-    xmax = greatest-abs limit (λ i. point ps i .x) (λ i a b. sheet-abs (point ps i .x) (x-on (point ps i) (on i a b)));
-    ymin = least-abs limit (λ i. point ps i .y) (λ i a b. sheet-abs (point ps i .y) (y-on (point ps i) (on i a b)));
-    ymax = greatest-abs limit (λ i. point ps i .y) (λ i a b. sheet-abs (point ps i .y) (y-on (point ps i) (on i a b)));
+    cmin = least-abs widest (λ i. nodeC ps first last (point ps i)) strip-c;
+    cmax = greatest-abs widest (λ i. nodeC ps first last (point ps i)) strip-c;
+    tmin = least-abs widest (λ i. nodeT ps first last (point ps i)) strip-t;
+    tmax = greatest-abs widest (λ i. nodeT ps first last (point ps i)) strip-t;
+    xmin = least-abs limit (λ i. point ps i .x) (λ i a b. on-at i a b .x-in);
+    xmax = greatest-abs limit (λ i. point ps i .x) (λ i a b. on-at i a b .x-in);
+    ymin = least-abs limit (λ i. point ps i .y) (λ i a b. on-at i a b .y-in);
+    ymax = greatest-abs limit (λ i. point ps i .y) (λ i a b. on-at i a b .y-in);
   }
 
 -- ---------------- every number fits an i32

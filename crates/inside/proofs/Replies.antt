@@ -13,7 +13,7 @@ use Rattle.rules.specs.Reply.{Reply, early, firstRefusal, orRefused}
 use Rattle.rules.specs.Rows.{lengthChecks, askedCheck, ringCheck}
 use Rattle.rules.specs.Walk.{fresh}
 use Rattle.rules.specs.Questions.{inWalk, sideOfRing, inReply}
-use Rattle.inside.proofs.Lengths.{orElse, first-append}
+use Rattle.visits.proofs.Checks.{orElse, first-append}
 
 module _ (ps t : List ℤ) (z : Point) (allowance : ℕ) where
   abbrev walkReply : Reply

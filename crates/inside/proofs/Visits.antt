@@ -1,42 +1,22 @@
 -- One visit of IN by its cases, in the order of the code.
 use mathlib.Core.Path.{_≡_, refl, sym, _∙_, ap, subst}
-use mathlib.Core.Bool.{Bool, true, false, cond, _||_}
+use mathlib.Core.Bool.{Bool, true, false, cond}
 use mathlib.Core.List.{List}
 use Prim.Native.Nat.{ℕ}
-use lib.Dec.{leb}
 use lib.IntN.{ℤ}
-use borrow.Author.Tests.{not-true, not-false}
 use Rattle.rules.specs.declared.Line.the-variants.{LineA}
 use Rattle.rules.specs.declared.Node.{Node}
 use Rattle.rules.specs.declared.Point.{Point}
 use Rattle.rules.specs.declared.Row.{Row}
 use Rattle.rules.specs.Plane.{direction}
-use Rattle.rules.specs.Sheet.{segmentsOf}
-use Rattle.rules.specs.Tree.{rowAt, rowCount}
+use Rattle.rules.specs.Tree.{rowAt}
 use Rattle.rules.specs.Plain.{onSegment, crosses}
 use Rattle.rules.specs.Rows.{good}
 use Rattle.rules.specs.Walk.{Visit, refuse, finish, pass, halve}
-use Rattle.rules.specs.Questions.{leftOf, rightOf, leaf, splitIn, openNode, startOf, endOf, clearOf, count, inVisit}
-use Rattle.line.specs.Said.{childrenFit}
+use Rattle.rules.specs.Questions.{leaf, splitIn, openNode, startOf, endOf, clearOf, count, inVisit}
 use Rattle.inside.specs.Said.{stepVisit, SplitsInside}
 use Rattle.inside.specs.declared.Step.{Step}
 use Rattle.inside.specs.declared.Step.the-variants.{Bad, Finish, Pass}
-
--- ---------------- a node is split
-module _ (ps : List ℤ) (n : Node) (s : ℕ) where
-  -- a child's row is not below 2n-1
-  abbrev beyond : Bool
-  beyond = leb (rowCount (segmentsOf ps)) (leftOf n s .row) || leb (rowCount (segmentsOf ps)) (rightOf n s .row)
-
-  abbrev opened : Bool → Visit Bool Node
-  opened b = cond b (refuse 11 LineA (n .row)) (halve (leftOf n s) (rightOf n s))
-
-  -- then 11 is refused, and else the node is halved
-  pub open-beyond : childrenFit ps n s ≡ false → opened true ≡ openNode LineA ps n s halve
-  open-beyond e = sym (ap opened (not-false beyond e))
-
-  pub open-halves : childrenFit ps n s ≡ true → opened false ≡ openNode LineA ps n s halve
-  open-halves e = sym (ap opened (not-true beyond e))
 
 -- ---------------- a leaf
 -- what its test comes to is what the definition says, and no split

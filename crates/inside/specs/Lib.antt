@@ -1,3 +1,2 @@
 -- What the contracts of `inside` are said with.
-pub mod Fine
 pub mod Said

@@ -3,14 +3,20 @@
 use line::Checked;
 use line::c_at;
 use line::check_lengths;
-use line::children_fit;
 use line::direction;
+use line::early;
 use line::on_sheet;
 use line::point_at;
-use line::row_at;
-use line::row_good;
 use line::same_point;
+use line::step;
 use line::t_at;
+use row::children_fit;
+use row::left_of;
+use row::right_of;
+use row::root;
+use row::row_at;
+use row::row_good;
+use row::split_of;
 use rules::Line;
 use rules::Next;
 use rules::Node;
@@ -27,13 +33,12 @@ ghost use lib.ListN.{length};
 ghost use lib.Signed.{ltZ};
 ghost use Rattle.rules.specs.Build.{holdsNumber};
 ghost use Rattle.rules.specs.Plain.{rangeHolds, onSegment, lowHigh, sideOf, crosses};
-ghost use Rattle.rules.specs.Plane.{step};
-ghost use Rattle.rules.specs.Questions.{leftOf, rightOf, outside, clearOf, count, openNode, inVisit, sideOfRing, inReply};
+ghost use Rattle.rules.specs.Questions.{outside, clearOf, count, openNode, inVisit, sideOfRing, inReply};
 ghost use Rattle.rules.specs.Reply.{sideReply};
 ghost use Rattle.rules.specs.Rows.{ringCheck};
 ghost use Rattle.rules.specs.Walk.{walk, halve};
-ghost use Rattle.line.specs.Small.{OnSheet, Small};
-ghost use Rattle.inside.specs.Fine.{Stands};
+ghost use Rattle.visits.specs.Small.{OnSheet, Small};
+ghost use Rattle.row.specs.Stands.{Stands};
 ghost use Rattle.inside.specs.Said.{stepVisit, SplitsInside, ringWalked};
 
 // Whether v lies between lo and hi.
@@ -53,17 +58,6 @@ fn range_holds(a: i64, b: i64, v: i64) -> bool
     holds(b, a, v)
 }
 
-// The step from a to b.
-fn step_to(a: Point, b: Point) -> Point
-    requires { ⌜ OnSheet a × OnSheet b ⌝ }
-    ensures { λ r. ⌜ r ≡ step a b ⌝ }
-{
-    Point {
-        x: b.x - a.x,
-        y: b.y - a.y,
-    }
-}
-
 // Whether z is on the segment a to b.
 fn on_segment(z: Point, a: Point, b: Point) -> bool
     requires { ⌜ OnSheet z × OnSheet a × OnSheet b ⌝ }
@@ -75,7 +69,7 @@ fn on_segment(z: Point, a: Point, b: Point) -> bool
     if !range_holds(a.y, b.y, z.y) {
         return false;
     }
-    c_at(a, step_to(a, b), z) == 0
+    c_at(a, step(a, b), z) == 0
 }
 
 // Whether l is not above z and h is above it.
@@ -192,7 +186,7 @@ fn visit(points: &[i32], table: &[i32], node: Node, z: Point) -> Step
     if last <= first + 1 {
         return test_leaf(z, start, end);
     }
-    halve(points, node, r.split as usize)
+    halve(points, node, split_of(r))
 }
 
 // What a walk comes to: on-edge, over with whether the count is odd, without a visit left, or refused.
@@ -223,30 +217,6 @@ fn refuse(number: u32, row: usize, tally: Tally) -> RingWalk
         place: row,
         visits: tally.visits,
     })
-}
-
-// The left child is the next row.
-fn left_of(node: Node, split: usize) -> Node
-    requires { ⌜ node .row < 8193 ⌝ }
-    ensures { λ r. ⌜ r ≡ leftOf node split ⌝ }
-{
-    Node {
-        row: node.row + 1,
-        first: node.first,
-        last: split,
-    }
-}
-
-// The right child is 2 * (split - first) rows on; it starts at the split point too.
-fn right_of(node: Node, split: usize) -> Node
-    requires { ⌜ (node .row < 8193) × (node .first < split) × (split < 4097) ⌝ }
-    ensures { λ r. ⌜ r ≡ rightOf node split ⌝ }
-{
-    Node {
-        row: node.row + 2 * (split - node.first),
-        first: split,
-        last: node.last,
-    }
 }
 
 // The walk of a node: the left half, then the right half, with the count handed on. Each way returns at once, so that no
@@ -303,18 +273,6 @@ fn side_of_ring(walked: RingWalk, allowance: u32) -> Side
     }
 }
 
-// A refusal before the walk.
-fn early(number: u32, line: Line) -> Side
-    ensures { λ r. ⌜ r ≡ Side.Refused (record { number = number; line = line; place = 0; visits = 0 }) ⌝ }
-{
-    Side::Refused(Refusal {
-        number,
-        line,
-        place: 0,
-        visits: 0,
-    })
-}
-
 // Which side of the ring z is on, by at most this many visits. Refusals 1, 2, 3, 6, 8, 9, then the walk.
 pub fn inside(points: &[i32], table: &[i32], z: Point, allowance: u32) -> Side
     ensures { λ r. ⌜ sideReply r ≡ inReply (now (points .entry)) (now (table .entry)) z allowance ⌝ }
@@ -323,19 +281,17 @@ pub fn inside(points: &[i32], table: &[i32], z: Point, allowance: u32) -> Side
         return Side::Refused(refusal);
     }
     if !on_sheet(z) {
-        return early(8, Line::NoLine);
+        return Side::Refused(early(8, Line::NoLine));
     }
     if no_ring(points) {
-        return early(9, Line::LineA);
+        return Side::Refused(early(9, Line::LineA));
     }
-    let root = Node {
-        row: 0,
-        first: 0,
-        last: points.len() / 2 - 1,
-    };
     let tally = Tally {
         allowance,
         visits: 0,
     };
-    side_of_ring(walk(points, table, root, z, false, tally), allowance)
+    side_of_ring(
+        walk(points, table, root(points), z, false, tally),
+        allowance,
+    )
 }

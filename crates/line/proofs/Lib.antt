@@ -1,2 +1,3 @@
--- Laws that the proofs of `line` share.
-pub mod Parts
+-- Laws of stored numbers and of lengths, for `line` and the crates above it.
+pub mod Stored
+pub mod Lengths

@@ -1,3 +1,3 @@
 -- What the contracts of `line` are said with.
-pub mod Small
+pub mod Fine
 pub mod Said

@@ -1,27 +1,31 @@
-// Points and rows as the machine reads them: a point out of a slice, c and t, the row rules of refusal 10, and the lengths
-// that refusals 1, 2, 3 and 6 ask for. Every function says its result by a definition of `rules`.
-use rules::Answer;
+// Points as the machine reads them: a point out of a slice, steps, c and t, and the lengths that refusals 1, 2, 3 and 6 ask
+// for. Every function says its result by a definition of `rules`.
 use rules::Line;
-use rules::Node;
 use rules::Point;
 use rules::Refusal;
-use rules::Row;
-use rules::Tally;
 use whole::wide;
 ghost use mathlib.Core.Path.{_≡_};
-ghost use mathlib.Core.Bool.{not, _&&_};
-ghost use Prim.Native.Nat.{_+_, _*_, _<_, _≤_};
-ghost use lib.IntN.{pos};
+ghost use Prim.Native.Nat.{_+_, _*_, _<_};
 ghost use lib.ListN.{length};
-ghost use lib.Signed.{leZ};
-ghost use Rattle.rules.specs.Plane.{samePoint, direction, cAt, tAt, size²};
+ghost use Rattle.whole.specs.Order.{minZ, maxZ};
+ghost use Rattle.rules.specs.Plane.{samePoint, step, direction, cAt, tAt, size²};
 ghost use Rattle.rules.specs.Sheet.{point, inSheet, onSheet};
-ghost use Rattle.rules.specs.Tree.{width, rowAt};
-ghost use Rattle.rules.specs.Questions.{yesOrNo};
-ghost use Rattle.rules.specs.Reply.{firstRefusal, answerReply};
-ghost use Rattle.rules.specs.Rows.{rangeGood, splitGood, stripGood, sideGood, boxGood, good, lengthChecks};
-ghost use Rattle.line.specs.Said.{checkedRefusal, childrenFit, walked};
-ghost use Rattle.line.specs.Small.{OnSheet, Small};
+ghost use Rattle.rules.specs.Reply.{firstRefusal};
+ghost use Rattle.rules.specs.Rows.{lengthChecks};
+ghost use Rattle.line.specs.Said.{checkedRefusal};
+ghost use Rattle.visits.specs.Small.{OnSheet, Small};
+
+pub fn lesser(a: i64, b: i64) -> i64
+    ensures { λ r. ⌜ r ≡ minZ a b ⌝ }
+{
+    if a < b { a } else { b }
+}
+
+pub fn greater(a: i64, b: i64) -> i64
+    ensures { λ r. ⌜ r ≡ maxZ a b ⌝ }
+{
+    if a < b { b } else { a }
+}
 
 // Coordinates are -LIMIT to LIMIT.
 const LIMIT: i64 = 16383;
@@ -55,6 +59,17 @@ pub fn same_point(a: Point, b: Point) -> bool
     a.x == b.x && a.y == b.y
 }
 
+// The step from a to b.
+pub fn step(a: Point, b: Point) -> Point
+    requires { ⌜ OnSheet a × OnSheet b ⌝ }
+    ensures { λ r. ⌜ r ≡ step a b ⌝ }
+{
+    Point {
+        x: b.x - a.x,
+        y: b.y - a.y,
+    }
+}
+
 // The step from the first point to the last, or (1, 0) where they are equal.
 pub fn direction(a: Point, b: Point) -> Point
     requires { ⌜ OnSheet a × OnSheet b ⌝ }
@@ -63,10 +78,7 @@ pub fn direction(a: Point, b: Point) -> Point
     if same_point(a, b) {
         return Point { x: 1, y: 0 };
     }
-    Point {
-        x: b.x - a.x,
-        y: b.y - a.y,
-    }
+    step(a, b)
 }
 
 pub fn c_at(s: Point, u: Point, p: Point) -> i64
@@ -90,126 +102,22 @@ pub fn size2(u: Point) -> i64
     u.x * u.x + u.y * u.y
 }
 
-// Row r of a table.
-pub fn row_at(table: &[i32], r: usize) -> Row
-    requires { ⌜ width * r + width ≤ length (now table) ⌝ }
-    ensures { λ row. ⌜ row ≡ rowAt (now (table .entry)) r ⌝ }
-{
-    let at = 11 * r;
-    Row {
-        first: wide(table[at]),
-        last: wide(table[at + 1]),
-        split: wide(table[at + 2]),
-        cmin: wide(table[at + 3]),
-        cmax: wide(table[at + 4]),
-        tmin: wide(table[at + 5]),
-        tmax: wide(table[at + 6]),
-        xmin: wide(table[at + 7]),
-        xmax: wide(table[at + 8]),
-        ymin: wide(table[at + 9]),
-        ymax: wide(table[at + 10]),
-    }
-}
-
-fn range_good(r: Row, first: usize, last: usize) -> bool
-    requires { ⌜ (first < last) × (last < 4097) ⌝ }
-    ensures { λ g. ⌜ g ≡ rangeGood r first last ⌝ }
-{
-    r.first == first as i64 && r.last == last as i64
-}
-
-fn split_good(r: Row, first: usize, last: usize) -> bool
-    requires { ⌜ (first < last) × (last < 4097) ⌝ }
-    ensures { λ g. ⌜ g ≡ splitGood r first last ⌝ }
-{
-    if last <= first + 1 {
-        return r.split == -1;
-    }
-    (first as i64) < r.split && r.split < last as i64
-}
-
-// Whether the range lo to hi holds 0.
-fn holds_zero(lo: i64, hi: i64) -> bool
-    ensures { λ g. ⌜ g ≡ leZ lo (pos 0) && leZ (pos 0) hi ⌝ }
-{
-    lo <= 0 && 0 <= hi
-}
-
-fn strip_good(r: Row) -> bool
-    ensures { λ g. ⌜ g ≡ stripGood r ⌝ }
-{
-    holds_zero(r.cmin, r.cmax) && holds_zero(r.tmin, r.tmax)
-}
-
-fn side_good(lo: i64, hi: i64) -> bool
-    ensures { λ g. ⌜ g ≡ sideGood lo hi ⌝ }
-{
-    if hi < lo {
-        return false;
-    }
-    -LIMIT <= lo && hi <= LIMIT
-}
-
-fn box_good(r: Row) -> bool
-    ensures { λ g. ⌜ g ≡ boxGood r ⌝ }
-{
-    side_good(r.xmin, r.xmax) && side_good(r.ymin, r.ymax)
-}
-
-fn ends_good(a: Point, b: Point, leaf: bool) -> bool
-    ensures { λ g. ⌜ g ≡ onSheet a && onSheet b && not (leaf && samePoint a b) ⌝ }
-{
-    if !on_sheet(a) {
-        return false;
-    }
-    if !on_sheet(b) {
-        return false;
-    }
-    if leaf {
-        return !same_point(a, b);
-    }
-    true
-}
-
-// Whether a row that is read at a visit is good, for the range handed down.
-pub fn row_good(points: &[i32], r: Row, first: usize, last: usize) -> bool
-    requires { ⌜ (first < last) × (last < 4097) × (2 * last + 1 < length (now points)) ⌝ }
-    ensures { λ g. ⌜ g ≡ good (now (points .entry)) r first last ⌝ }
-{
-    if !range_good(r, first, last) {
-        return false;
-    }
-    if !split_good(r, first, last) {
-        return false;
-    }
-    if !strip_good(r) {
-        return false;
-    }
-    if !box_good(r) {
-        return false;
-    }
-    ends_good(
-        point_at(points, first),
-        point_at(points, last),
-        last <= first + 1,
-    )
-}
-
 // What the checks before a walk come to.
 pub enum Checked {
     Fine,
     Refused(Refusal),
 }
 
-fn early(number: u32, line: Line) -> Checked
-    ensures { λ r. ⌜ r ≡ Checked.Refused (record { number = number; line = line; place = 0; visits = 0 }) ⌝ }
+// A refusal before the walk.
+pub fn early(number: u32, line: Line) -> Refusal
+    ensures { λ r. ⌜ r ≡ record { number = number; line = line; place = 0; visits = 0 } ⌝ }
 {
-    Checked::Refused(Refusal {
+    Refusal {
         number,
         line,
         place: 0,
         visits: 0,
-    })
+    }
 }
 
 // Refusals 1, 2, 3 and 6 of a line and its table.
@@ -217,48 +125,17 @@ pub fn check_lengths(line: Line, points: &[i32], table: &[i32]) -> Checked
     ensures { λ r. ⌜ checkedRefusal r ≡ firstRefusal (lengthChecks line (now (points .entry)) (now (table .entry))) ⌝ }
 {
     if points.len() % 2 == 1 {
-        return early(1, line);
+        return Checked::Refused(early(1, line));
     }
     let count = points.len() / 2;
     if count < 2 {
-        return early(2, line);
+        return Checked::Refused(early(2, line));
     }
     if 4097 < count {
-        return early(3, line);
+        return Checked::Refused(early(3, line));
     }
     if table.len() < 11 * (2 * (count - 1) - 1) {
-        return early(6, line);
+        return Checked::Refused(early(6, line));
     }
     Checked::Fine
-}
-
-// Whether both children's rows are below 2n-1; the right child's is the farther.
-pub fn children_fit(points: &[i32], node: Node, split: usize) -> bool
-    requires { ⌜ (4 ≤ length (now points)) × (node .first < split) × (split < 4097) × (node .row < 8193) ⌝ }
-    ensures { λ r. ⌜ r ≡ childrenFit (now (points .entry)) node split ⌝ }
-{
-    let rows = 2 * (points.len() / 2 - 1) - 1;
-    let row = node.row;
-    let first = node.first;
-    row + 2 * (split - first) < rows
-}
-
-// What a walk that counts nothing comes to.
-pub enum Walk {
-    Ended(Tally),
-    Over(Tally),
-    Spent,
-    Refused(Refusal),
-}
-
-// The answer of NEAR and MEET.
-pub fn answer(walk: Walk, allowance: u32) -> Answer
-    ensures { λ r. ⌜ answerReply r ≡ yesOrNo allowance (walked walk) ⌝ }
-{
-    match walk {
-        Walk::Ended(tally) => Answer::Yes(tally.visits),
-        Walk::Over(tally) => Answer::No(tally.visits),
-        Walk::Spent => Answer::Undecided(allowance),
-        Walk::Refused(refusal) => Answer::Refused(refusal),
-    }
 }

@@ -1,22 +1,21 @@
 -- What a good row that was read gives: points, a heading and a box for exact arithmetic, and an inner split.
-use mathlib.Core.Path.{_≡_, subst}
+use mathlib.Core.Path.{_≡_}
 use mathlib.Core.List.{List}
 use Prim.Native.Nat.{ℕ, _+_, _<_}
 use native.Mathlib.Omega.{arith}
 use lib.Dec.{T}
-use lib.IntN.{ℤ}
-use mir.Facts.{and-yes}
+use lib.IntN.{ℤ, pos}
+use lib.Signed.{_≤ℤ_}
 use Rattle.rules.specs.declared.Node.{Node}
 use Rattle.rules.specs.declared.Row.{Row}
-use Rattle.rules.specs.Rows.{rangeGood, splitGood, good}
+use Rattle.rules.specs.Rows.{good}
 use Rattle.rules.specs.Questions.{startOf, endOf, headingOf, splitIn}
 use Rattle.visits.proofs.Nodes.{GoodRow, good-read}
-use Rattle.line.specs.Small.{OnSheet}
-use Rattle.line.proofs.Parts.{good-parts}
-use Rattle.meet.specs.Fine.{Stands}
+use Rattle.visits.specs.Small.{OnSheet}
+use Rattle.row.specs.Stands.{Stands}
 use Rattle.meet.specs.Pairs.{Placed, Read, Inner}
-use Rattle.meet.proofs.OnSheets.{between-abs, on-sheet}
-use Rattle.meet.proofs.Sizes.{direction-small}
+use Rattle.visits.proofs.OnSheets.{between-abs, on-sheet}
+use Rattle.visits.proofs.Sizes.{direction-small}
 
 -- the row of a node that stands in its line and table, once it is known to be good
 pub read-good : {ps t : List ℤ} {r : Row} {n : Node} → Stands ps t n → T (good ps r (n .first) (n .last)) → Read ps r n
@@ -49,11 +48,9 @@ module _ {ps : List ℤ} {r : Row} {n : Node} (d : Read ps r n) where
     };
   }
 
-  pub split-good : T (splitGood r (n .first) (n .last))
-  split-good =
-      let f = n .first in
-      let l = n .last in
-      let rest = and-yes (rangeGood r f l) _ (subst T (good-parts ps r f l) (d .row-good)) .1 in and-yes (splitGood r f l) _ rest .0
+  -- the split of a node that is no leaf is a number of points
+  pub split-above : n .first + 1 < n .last → pos 0 ≤ℤ r .split
+  split-above h = told .split-above h
 
   -- a node that is no leaf splits at an inner point
   pub splits-inside : {s : ℕ} → n .first + 1 < n .last → s ≡ splitIn r → Inner ps n s

@@ -1,5 +1,5 @@
 -- A visit that halves a pair gives two pairs that stand where it stands, each of fewer segments.
-use mathlib.Core.Bool.{_&&_, _||_}
+use mathlib.Core.Bool.{_&&_}
 use mathlib.Core.List.{List}
 use Prim.Native.Nat.{ℕ, _<_}
 use native.Mathlib.Omega.{arith}
@@ -9,16 +9,15 @@ use Rattle.whole.specs.Laws.{cond-ind}
 use Rattle.rules.specs.declared.Pair.{Pair}
 use Rattle.rules.specs.declared.Row.{Row}
 use Rattle.rules.specs.Plain.{share}
-use Rattle.rules.specs.Sheet.{segmentsOf}
-use Rattle.rules.specs.Tree.{rowAt, rowCount}
+use Rattle.rules.specs.Tree.{rowAt}
 use Rattle.rules.specs.Rows.{good}
 use Rattle.rules.specs.Walk.{Visit, refuse, finish, pass, halve}
-use Rattle.rules.specs.Questions.{Nothing, leaf, size, leftOf, rightOf, splitIn, startOf, endOf, headingOf, apart, meetVisit}
-use Rattle.visits.proofs.Nodes.{good-read, larger-opens}
+use Rattle.rules.specs.Questions.{Nothing, leaf, size, splitIn, startOf, endOf, headingOf, apart, meetVisit}
+use Rattle.visits.proofs.Nodes.{good-read, larger-opens, other-opens}
 use Rattle.meet.specs.Pairs.{PairStands}
 use Rattle.meet.specs.Said.{segments, openedA, openedB, compared}
-use Rattle.meet.proofs.Opens.{other-opens}
-use Rattle.meet.proofs.Places.{left-stands, right-stands}
+use Rattle.row.specs.Said.{beyond}
+use Rattle.row.proofs.Places.{left-stands, right-stands}
 
 module _ (ps t qs t′ : List ℤ) (n : Pair) where
   abbrev pub Halves : Visit Nothing Pair → Type 0
@@ -30,7 +29,7 @@ module _ (ps t qs t′ : List ℤ) (n : Pair) where
   module _ (h : PairStands ps t qs t′ n) where
     halves-a : (s : ℕ) → n .a .first < s → s < n .a .last → Halves (openedA ps n s)
     halves-a s low high =
-        cond-ind (leb (rowCount (segmentsOf ps)) (leftOf (n .a) s .row) || leb (rowCount (segmentsOf ps)) (rightOf (n .a) s .row)) _ _ Halves (λ _. tt)
+        cond-ind (beyond ps (n .a) s) _ _ Halves (λ _. tt)
         (λ _. (
           record { a-stands = left-stands (h .a-stands) low high; b-stands = h .b-stands },
           record { a-stands = right-stands (h .a-stands) low high; b-stands = h .b-stands },
@@ -40,7 +39,7 @@ module _ (ps t qs t′ : List ℤ) (n : Pair) where
 
     halves-b : (s : ℕ) → n .b .first < s → s < n .b .last → Halves (openedB qs n s)
     halves-b s low high =
-        cond-ind (leb (rowCount (segmentsOf qs)) (leftOf (n .b) s .row) || leb (rowCount (segmentsOf qs)) (rightOf (n .b) s .row)) _ _ Halves (λ _. tt)
+        cond-ind (beyond qs (n .b) s) _ _ Halves (λ _. tt)
         (λ _. (
           record { a-stands = h .a-stands; b-stands = left-stands (h .b-stands) low high },
           record { a-stands = h .a-stands; b-stands = right-stands (h .b-stands) low high },

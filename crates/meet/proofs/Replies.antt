@@ -10,7 +10,7 @@ use Rattle.rules.specs.Reply.{Reply, firstRefusal, orRefused}
 use Rattle.rules.specs.Rows.{lengthChecks}
 use Rattle.rules.specs.Walk.{fresh}
 use Rattle.rules.specs.Questions.{meetWalk, yesOrNo, meetReply}
-use Rattle.meet.proofs.Lengths.{orElse, first-append}
+use Rattle.visits.proofs.Checks.{orElse, first-append}
 
 module _ (ps t qs t′ : List ℤ) (allowance : ℕ) where
   abbrev pub walkReply : Reply

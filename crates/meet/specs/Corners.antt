@@ -4,7 +4,7 @@ use lib.IntN.{ℤ}
 use lib.Signed.{ltZ}
 use Rattle.rules.specs.declared.Point.{Point}
 use Rattle.rules.specs.declared.Row.{Row}
-use Rattle.line.specs.Small.{OnSheet}
+use Rattle.visits.specs.Small.{OnSheet}
 use Rattle.meet.specs.declared.strips.Corners.{Corners}
 use Rattle.meet.specs.declared.strips.Four.{Four}
 

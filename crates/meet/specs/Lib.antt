@@ -1,5 +1,4 @@
 -- What the contracts of `meet` are said with.
-pub mod Fine
 pub mod Pairs
 pub mod Corners
 pub mod Said

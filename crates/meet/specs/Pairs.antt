@@ -12,8 +12,8 @@ use Rattle.rules.specs.declared.Point.{Point}
 use Rattle.rules.specs.declared.Row.{Row}
 use Rattle.rules.specs.Sheet.{limit}
 use Rattle.rules.specs.Rows.{good}
-use Rattle.line.specs.Small.{OnSheet, Small}
-use Rattle.meet.specs.Fine.{Stands}
+use Rattle.visits.specs.Small.{OnSheet, Small}
+use Rattle.row.specs.Stands.{Stands}
 
 -- ---------------- sizes
 -- the box of a row is on the sheet

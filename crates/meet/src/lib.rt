@@ -4,36 +4,38 @@ mod segments;
 mod strips;
 
 use line::Checked;
-use line::Walk;
-use line::answer;
 use line::check_lengths;
-use line::children_fit;
 use line::direction;
 use line::point_at;
-use line::row_at;
-use line::row_good;
+use row::Walk;
+use row::answer;
+use row::children_fit;
+use row::left_of;
+use row::refused;
+use row::right_of;
+use row::root;
+use row::row_at;
+use row::row_good;
+use row::split_of;
 use rules::Answer;
 use rules::Line;
 use rules::Next;
 use rules::Node;
 use rules::Pair;
 use rules::Point;
-use rules::Refusal;
 use rules::Row;
 use rules::Tally;
 use segments::share;
 use strips::apart;
 ghost use mathlib.Core.Path.{_≡_};
 ghost use mathlib.Core.Bool.{not, _&&_};
-ghost use Prim.Native.Nat.{ℕ, _+_, _<_, _≤_};
+ghost use Prim.Native.Nat.{ℕ, _<_, _≤_};
 ghost use lib.Dec.{T};
-ghost use lib.ListN.{length};
 ghost use Rattle.rules.specs.Reply.{answerReply};
-ghost use Rattle.rules.specs.Rows.{splitGood};
 ghost use Rattle.rules.specs.Walk.{walk};
-ghost use Rattle.rules.specs.Questions.{root, leftOf, rightOf, leaf, splitIn, meetVisit, meetReply};
-ghost use Rattle.line.specs.Said.{walked};
-ghost use Rattle.line.specs.Small.{OnSheet};
+ghost use Rattle.rules.specs.Questions.{leaf, meetVisit, meetReply};
+ghost use Rattle.visits.specs.Small.{OnSheet};
+ghost use Rattle.row.specs.Said.{walked};
 ghost use Rattle.meet.specs.Pairs.{Read, PairStands, Inner};
 ghost use Rattle.meet.specs.Said.{stepVisit, tested, openedA, openedB, opened, compared, segments};
 
@@ -43,36 +45,6 @@ enum Step {
     Finish,
     Pass,
     Halve(Pair, Pair),
-}
-
-fn left_of(node: Node, split: usize) -> Node
-    requires { ⌜ node .row < 8193 ⌝ }
-    ensures { λ r. ⌜ r ≡ leftOf node split ⌝ }
-{
-    Node {
-        row: node.row + 1,
-        first: node.first,
-        last: split,
-    }
-}
-
-fn right_of(node: Node, split: usize) -> Node
-    requires { ⌜ (node .row < 8193) × (node .first < split) × (split < 4097) ⌝ }
-    ensures { λ r. ⌜ r ≡ rightOf node split ⌝ }
-{
-    Node {
-        row: node.row + 2 * (split - node.first),
-        first: split,
-        last: node.last,
-    }
-}
-
-// The split of a good row that is not a leaf's.
-fn split_of(r: Row, node: Node) -> usize
-    requires { ⌜ (node .first + 1 < node .last) × T (splitGood r (node .first) (node .last)) ⌝ }
-    ensures { λ s. ⌜ s ≡ splitIn r ⌝ }
-{
-    r.split as usize
 }
 
 // The node of line A splits.
@@ -114,9 +86,9 @@ fn open_larger(points_a: &[i32], r: Row, points_b: &[i32], q: Row, pair: Pair) -
     let a = pair.a;
     let b = pair.b;
     if b.last - b.first <= a.last - a.first {
-        return open_a(points_a, pair, split_of(r, a));
+        return open_a(points_a, pair, split_of(r));
     }
-    open_b(points_b, pair, split_of(q, b))
+    open_b(points_b, pair, split_of(q))
 }
 
 fn both_leaves(a: Node, b: Node) -> bool
@@ -197,12 +169,7 @@ fn walk(
         return Walk::Spent;
     };
     match visit(points_a, table_a, points_b, table_b, pair) {
-        Step::Refuse(number, line, place) => Walk::Refused(Refusal {
-            number,
-            line,
-            place,
-            visits: counted.visits,
-        }),
+        Step::Refuse(number, line, place) => refused(number, line, place, counted),
         Step::Finish => Walk::Ended(counted),
         Step::Pass => Walk::Over(counted),
         Step::Halve(left, right) => {
@@ -212,17 +179,6 @@ fn walk(
             };
             walk(points_a, table_a, points_b, table_b, right, after)
         }
-    }
-}
-
-fn root(points: &[i32]) -> Node
-    requires { ⌜ 2 ≤ length (now points) ⌝ }
-    ensures { λ r. ⌜ r ≡ root (now (points .entry)) ⌝ }
-{
-    Node {
-        row: 0,
-        first: 0,
-        last: points.len() / 2 - 1,
     }
 }
 

@@ -1,24 +1,13 @@
 // Whether two segments share a point, ends, touches and overlaps included.
 use line::c_at;
+use line::greater;
+use line::lesser;
+use line::step;
 use rules::Point;
 ghost use mathlib.Core.Path.{_≡_};
-ghost use Rattle.whole.specs.Order.{minZ, maxZ};
-ghost use Rattle.rules.specs.Plane.{step};
 ghost use Rattle.rules.specs.Plain.{rangesOverlap, boxesOverlap, oneSide, share};
-ghost use Rattle.line.specs.Small.{OnSheet};
+ghost use Rattle.visits.specs.Small.{OnSheet};
 ghost use Rattle.meet.specs.Said.{bothAside};
-
-fn lesser(a: i64, b: i64) -> i64
-    ensures { λ r. ⌜ r ≡ minZ a b ⌝ }
-{
-    if a < b { a } else { b }
-}
-
-fn greater(a: i64, b: i64) -> i64
-    ensures { λ r. ⌜ r ≡ maxZ a b ⌝ }
-{
-    if a < b { b } else { a }
-}
 
 fn ranges_overlap(a: i64, b: i64, c: i64, d: i64) -> bool
     ensures { λ r. ⌜ r ≡ rangesOverlap a b c d ⌝ }
@@ -40,16 +29,6 @@ fn one_side(p: i64, q: i64) -> bool
         return 0 < q;
     }
     p < 0 && q < 0
-}
-
-fn step(a: Point, b: Point) -> Point
-    requires { ⌜ OnSheet a × OnSheet b ⌝ }
-    ensures { λ r. ⌜ r ≡ step a b ⌝ }
-{
-    Point {
-        x: b.x - a.x,
-        y: b.y - a.y,
-    }
 }
 
 // Whether c and d lie on one side of the line through a and b.

@@ -6,7 +6,7 @@ use rules::Row;
 ghost use mathlib.Core.Path.{_≡_};
 ghost use Rattle.rules.specs.Plane.{cAt, tAt};
 ghost use Rattle.rules.specs.Questions.{boxesApart, stripApart, apart};
-ghost use Rattle.line.specs.Small.{OnSheet, Small};
+ghost use Rattle.visits.specs.Small.{OnSheet, Small};
 ghost use Rattle.meet.specs.Pairs.{BoxOnSheet, Placed};
 ghost use Rattle.meet.specs.Corners.{CornersOnSheet, cornersOf, valuesAt, fourOf, allBelow, beyond};
 

@@ -13,7 +13,7 @@ use Rattle.rules.specs.Reply.{Reply, early, firstRefusal, orRefused}
 use Rattle.rules.specs.Rows.{lengthChecks, distanceCheck, askedCheck}
 use Rattle.rules.specs.Walk.{fresh}
 use Rattle.rules.specs.Questions.{nearWalk, yesOrNo, nearReply}
-use Rattle.near.proofs.Lengths.{orElse, first-append}
+use Rattle.visits.proofs.Checks.{orElse, first-append}
 
 module _ (ps t : List ℤ) (z : Point) (D : ℤ) (allowance : ℕ) where
   abbrev pub walkReply : Reply

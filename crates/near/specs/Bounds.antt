@@ -1,13 +1,7 @@
--- Sizes for which the squared comparisons of NEAR are exact in 64 bits.
-use Prim.Native.Nat.{ℕ, _*_}
+-- What makes the squared comparisons of NEAR exact in 64 bits.
 use lib.IntN.{pos}
 use lib.Signed.{_≤ℤ_}
 use Rattle.rules.specs.declared.Row.{Row}
-use Rattle.rules.specs.Sheet.{limit}
-
--- |c|, |t| and |u|^2 on the sheet
-abbrev pub widest : ℕ
-widest = 2 * (2 * limit) * (2 * limit)
 
 -- the strip of a good row holds its start, whose c and t are 0
 pub record HoldsStart (r : Row) : Type 0 where

@@ -1,4 +1,3 @@
 -- What the contracts of `near` are said with.
 pub mod Bounds
-pub mod Fine
 pub mod Said

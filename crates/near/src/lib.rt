@@ -1,13 +1,15 @@
 // NEAR: whether a point lies within a distance of a line. One visit reads one row, checks it, and dismisses the node, tests
 // its one segment or halves it; the walk and the answer are those of `rules`, for all numbers that the slices can hold.
 use line::Checked;
-use line::Walk;
+use row::Walk;
+use row::left_of;
+use row::refused;
+use row::right_of;
 use rules::Answer;
 use rules::Line;
 use rules::Next;
 use rules::Node;
 use rules::Point;
-use rules::Refusal;
 use rules::Row;
 use rules::Tally;
 ghost use mathlib.Core.Path.{_≡_};
@@ -19,12 +21,13 @@ ghost use Rattle.rules.specs.Plane.{step, size²};
 ghost use Rattle.rules.specs.Sheet.{farthest, distanceFits};
 ghost use Rattle.rules.specs.Plain.{within};
 ghost use Rattle.rules.specs.Reply.{answerReply};
-ghost use Rattle.rules.specs.Walk.{refused, walk};
-ghost use Rattle.rules.specs.Questions.{leftOf, rightOf, shortfall, farFrom, nearVisit, nearWalk, nearReply};
-ghost use Rattle.line.specs.Said.{walked};
-ghost use Rattle.line.specs.Small.{OnSheet, Small};
-ghost use Rattle.near.specs.Bounds.{widest, HoldsStart};
-ghost use Rattle.near.specs.Fine.{LengthsFine, Stands};
+ghost use Rattle.rules.specs.Walk.{walk};
+ghost use Rattle.rules.specs.Questions.{shortfall, farFrom, nearVisit, nearWalk, nearReply};
+ghost use Rattle.visits.specs.Small.{OnSheet, Small, widest};
+ghost use Rattle.line.specs.Fine.{LengthsFine};
+ghost use Rattle.row.specs.Stands.{Stands};
+ghost use Rattle.row.specs.Said.{walked};
+ghost use Rattle.near.specs.Bounds.{HoldsStart};
 ghost use Rattle.near.specs.Said.{visitOf, SplitsInside};
 
 // Whether g^2 + h^2 is above d^2*v: every squared comparison is this one.
@@ -35,23 +38,12 @@ fn farther(g: i64, h: i64, d: i64, v: i64) -> bool
     d * d * v < g * g + h * h
 }
 
-// The step from a to b.
-fn step(a: Point, b: Point) -> Point
-    requires { ⌜ OnSheet a × OnSheet b ⌝ }
-    ensures { λ r. ⌜ r ≡ step a b ⌝ }
-{
-    Point {
-        x: b.x - a.x,
-        y: b.y - a.y,
-    }
-}
-
 // Whether b is more than d away from a.
 fn apart(a: Point, b: Point, d: i64) -> bool
     requires { ⌜ OnSheet a × OnSheet b × Abs≤ farthest d ⌝ }
     ensures { λ r. ⌜ r ≡ ltZ (d *ℤ d) (size² (step a b)) ⌝ }
 {
-    let u = step(a, b);
+    let u = line::step(a, b);
     farther(u.x, u.y, d, 1)
 }
 
@@ -60,7 +52,7 @@ pub fn within(z: Point, a: Point, b: Point, d: i64) -> bool
     requires { ⌜ OnSheet z × OnSheet a × OnSheet b × Abs≤ farthest d ⌝ }
     ensures { λ r. ⌜ r ≡ within z a b d ⌝ }
 {
-    let u = step(a, b);
+    let u = line::step(a, b);
     let t = line::t_at(a, u, z);
     if t <= 0 {
         return !apart(a, z, d);
@@ -112,8 +104,8 @@ fn visit(points: &[i32], table: &[i32], node: Node, z: Point, d: i64) -> Visited
 {
     let first = node.first;
     let last = node.last;
-    let row = line::row_at(table, node.row);
-    if !line::row_good(points, row, first, last) {
+    let row = row::row_at(table, node.row);
+    if !row::row_good(points, row, first, last) {
         return Visited::Bad;
     }
     let a = line::point_at(points, first);
@@ -127,45 +119,11 @@ fn visit(points: &[i32], table: &[i32], node: Node, z: Point, d: i64) -> Visited
         }
         return Visited::Pass;
     }
-    let split = row.split as usize;
-    if !line::children_fit(points, node, split) {
+    let split = row::split_of(row);
+    if !row::children_fit(points, node, split) {
         return Visited::Beyond;
     }
     Visited::Halve(split)
-}
-
-fn left_of(node: Node, split: usize) -> Node
-    requires { ⌜ node .row < 8193 ⌝ }
-    ensures { λ r. ⌜ r ≡ leftOf node split ⌝ }
-{
-    Node {
-        row: node.row + 1,
-        first: node.first,
-        last: split,
-    }
-}
-
-fn right_of(node: Node, split: usize) -> Node
-    requires { ⌜ (node .row < 8193) × (node .first < split) × (split < 4097) ⌝ }
-    ensures { λ r. ⌜ r ≡ rightOf node split ⌝ }
-{
-    Node {
-        row: node.row + 2 * (split - node.first),
-        first: split,
-        last: node.last,
-    }
-}
-
-// The walk stops at a node: refused, with the visits made.
-fn refused(number: u32, line: Line, node: Node, tally: Tally) -> Walk
-    ensures { λ r. ⌜ walked r ≡ refused (record { number = number; line = line; place = node .row; visits = tally .visits }) ⌝ }
-{
-    Walk::Refused(Refusal {
-        number,
-        line,
-        place: node.row,
-        visits: tally.visits,
-    })
 }
 
 // The walk from a node on, left child first; a yes ends it.
@@ -185,8 +143,8 @@ fn walk(
         return Walk::Spent;
     };
     match visit(points, table, node, z, d) {
-        Visited::Bad => refused(10, line, node, counted),
-        Visited::Beyond => refused(11, line, node, counted),
+        Visited::Bad => refused(10, line, node.row, counted),
+        Visited::Beyond => refused(11, line, node.row, counted),
         Visited::Finish => Walk::Ended(counted),
         Visited::Pass => Walk::Over(counted),
         Visited::Halve(split) => {
@@ -204,38 +162,13 @@ pub fn ask(line: Line, points: &[i32], table: &[i32], z: Point, d: i64, tally: T
     requires { ⌜ LengthsFine (now points) (now table) × OnSheet z × Abs≤ farthest d ⌝ }
     ensures { λ r. ⌜ walked r ≡ nearWalk line (now (points .entry)) (now (table .entry)) z d tally ⌝ }
 {
-    let last = points.len() / 2 - 1;
-    walk(
-        line,
-        points,
-        table,
-        Node {
-            row: 0,
-            first: 0,
-            last,
-        },
-        z,
-        d,
-        tally,
-    )
+    walk(line, points, table, row::root(points), z, d, tally)
 }
 
 pub fn distance_fits(d: i64) -> bool
     ensures { λ r. ⌜ r ≡ distanceFits d ⌝ }
 {
     0 <= d && d <= 32767
-}
-
-// Refused before the walk, with no line at fault.
-fn early(number: u32) -> Answer
-    ensures { λ r. ⌜ r ≡ Answer.Refused (record { number = number; line = Line.NoLine; place = 0; visits = 0 }) ⌝ }
-{
-    Answer::Refused(Refusal {
-        number,
-        line: Line::NoLine,
-        place: 0,
-        visits: 0,
-    })
 }
 
 // Whether z is within the distance of the line: refusals 1, 2, 3, 6, 7 and 8, then the walk.
@@ -247,16 +180,16 @@ pub fn near(points: &[i32], table: &[i32], z: Point, distance: i64, allowance: u
         return Answer::Refused(refusal);
     }
     if !distance_fits(distance) {
-        return early(7);
+        return Answer::Refused(line::early(7, Line::NoLine));
     }
     if !line::on_sheet(z) {
-        return early(8);
+        return Answer::Refused(line::early(8, Line::NoLine));
     }
     let fresh = Tally {
         allowance,
         visits: 0,
     };
-    line::answer(
+    row::answer(
         ask(Line::LineA, points, table, z, distance, fresh),
         allowance,
     )

@@ -1,13 +1,15 @@
--- What it tells that no check refuses before a walk: not one of them holds, and so a line has a segment.
+-- The checks before a walk: which of two lists refuses, and what it tells that none does: not one of them holds, and so a
+-- line has a segment.
 use mathlib.Core.Path.{_≡_, refl, _∙_, ap, subst}
 use mathlib.Core.Bool.{Bool, true, false, cond}
 use mathlib.Core.List.{List, [], _∷_, _++_}
-use mathlib.Core.Option.{none, some, IsSome}
+use mathlib.Core.Option.{Option, none, some, IsSome}
 use Prim.Native.Nat.{_≤_}
 use native.Mathlib.Omega.{arith}
 use borrow.Author.Tests.{ltb-false}
 use lib.IntN.{ℤ}
 use Rattle.rules.specs.declared.Line.{Line}
+use Rattle.rules.specs.declared.Refusal.{Refusal}
 use Rattle.rules.specs.Sheet.{pointsOf, segmentsOf, fewest}
 use Rattle.rules.specs.Reply.{Check, early, firstRefusal}
 use Rattle.rules.specs.Rows.{lengthChecks}
@@ -38,6 +40,20 @@ clear-parts (k ∷ ks) ls c = let h = clear-parts ks ls (c .1) in ((c .0, h .0),
 pub clear-whole : (ks ls : List Check) → Clear ks → Clear ls → Clear (ks ++ ls)
 clear-whole [] ls c d = d
 clear-whole (k ∷ ks) ls c d = (c .0, clear-whole ks ls (c .1) d)
+
+-- what one option says, or else the other
+abbrev pub orElse : {A : Type 0} → Option A → Option A → Option A
+orElse none r = r
+orElse (some a) r = some a
+
+-- two lists of checks in a row refuse what the first does, and else what the second does
+pub first-append : (ks ls : List Check) → firstRefusal (ks ++ ls) ≡ orElse (firstRefusal ks) (firstRefusal ls)
+first-append [] ls = refl
+first-append (k ∷ ks) ls = ap (λ (r : Option Refusal). cond (k .holds) (some (early k)) r) (first-append ks ls) ∙ go (k .holds)
+  where
+    go : (b : Bool) → cond b (some (early k)) (orElse (firstRefusal ks) (firstRefusal ls)) ≡ orElse (cond b (some (early k)) (firstRefusal ks)) (firstRefusal ls)
+    go true = refl
+    go false = refl
 
 -- where the checks of a line's lengths, and then others, do not refuse ..
 module _ (l : Line) (ps t : List ℤ) (rest : List Check) (e : firstRefusal (lengthChecks l ps t ++ rest) ≡ none) where

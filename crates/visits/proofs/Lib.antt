@@ -2,10 +2,13 @@
 pub mod Tests
 pub mod Terms
 pub mod Affine
+pub mod OnSheets
+pub mod Sizes
 pub mod Counts
 pub mod Runs
 pub mod Checks
 pub mod Told
+pub mod Levels
 pub mod Replies
 pub mod Nodes
 pub mod Held

@@ -1,7 +1,7 @@
 -- What a good row tells, where a node's rows stand in the table, and what a sound table tells at each node. The row numbers
 -- of both children are kept in one place: `Fits`. So no child's row reaches 2n-1, whatever numbers the table holds.
-use mathlib.Core.Path.{_≡_}
-use mathlib.Core.Bool.{true, false, not, cond, _&&_}
+use mathlib.Core.Path.{_≡_, subst}
+use mathlib.Core.Bool.{Bool, true, false, not, cond, _&&_, and-comm}
 use mathlib.Core.List.{List}
 use mathlib.Core.Logic.{⊎-elim}
 use Prim.Native.Nat.{ℕ, suc, _+_, _*_, _≤_, _<_}
@@ -32,6 +32,7 @@ pub record GoodRow (ps : List ℤ) (r : Row) (first last : ℕ) : Type 0 where
   pub range-last : r .last ≡ pos last
   pub leaf-split : last ≤ first + 1 → r .split ≡ noSplit
   pub split-between : first + 1 < last → (first < splitIn r) × (splitIn r < last)
+  pub split-above : first + 1 < last → pos 0 ≤ℤ r .split
   pub cmin-low : r .cmin ≤ℤ pos 0
   pub cmax-high : pos 0 ≤ℤ r .cmax
   pub tmin-low : r .tmin ≤ℤ pos 0
@@ -67,11 +68,13 @@ good-read ps r first last h =
     let y2 = and-yes (leZ (r .ymin) (r .ymax) && inSheet (r .ymin)) (inSheet (r .ymax)) (xy .1) in
     let y1 = and-yes (leZ (r .ymin) (r .ymax)) (inSheet (r .ymin)) (y2 .0) in
     let o = and-yes (onSheet (point ps first)) (onSheet (point ps last)) (e .1) in
+    let between : first + 1 < last → T (ltZ (pos first) (r .split)) × T (ltZ (r .split) (pos last)) = λ l. and-yes (ltZ (pos first) (r .split)) (ltZ (r .split) (pos last)) (rw (lt-leb last (first + 1) l) at (g .1)) in
     record {
       range-first = eqZ-yes {a = r .first} {b = pos first} (f .0);
       range-last = eqZ-yes {a = r .last} {b = pos last} (f .1);
       leaf-split = λ l. eqZ-yes {a = r .split} {b = noSplit} (rw (le-leb last (first + 1) l) at (g .1));
-      split-between = λ l. let k = and-yes (ltZ (pos first) (r .split)) (ltZ (r .split) (pos last)) (rw (lt-leb last (first + 1) l) at (g .1)) in between-read first last (r .split) (ltZ-yes (k .0)) (ltZ-yes (k .1));
+      split-between = λ l. let k = between l in between-read first last (r .split) (ltZ-yes (k .0)) (ltZ-yes (k .1));
+      split-above = λ l. let k = ltZ-yes {a = pos first} {b = r .split} (between l .0) in omega zarith;
       cmin-low = leZ-yes (c .0);
       cmax-high = leZ-yes (c .1);
       tmin-low = leZ-yes (c .2);
@@ -115,6 +118,10 @@ open-fits l ps n s go f low high =
 pub larger-opens : (a b : Node) → T (not (leaf a && leaf b)) → size b ≤ size a → a .first + 1 < a .last
 larger-opens a b h k =
     ⊎-elim (nleb→lt (a .last) (a .first + 1)) (λ l. let m = nleb→lt (b .last) (b .first + 1) l in omega arith) (and-no (leaf a) (leaf b) h)
+
+-- of a pair that is not two leaves, the other node is no leaf where it has more segments
+pub other-opens : (a b : Node) → T (not (leaf a && leaf b)) → size a < size b → b .first + 1 < b .last
+other-opens a b h k = larger-opens b a (subst (λ (u : Bool). T (not u)) (and-comm (leaf a) (leaf b)) h) (omega arith)
 
 -- ---------------- a sound table, at a node
 pub record SoundNode (f : ℕ) (ps t : List ℤ) (n : Node) : Type 0 where

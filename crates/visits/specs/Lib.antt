@@ -1,3 +1,4 @@
--- What the theorems about walks are said with.
+-- What the theorems about walks are said with, and the sizes of points on the sheet.
 pub mod Tells
 pub mod Truthful
+pub mod Small

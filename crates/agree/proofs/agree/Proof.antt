@@ -7,17 +7,20 @@ use lib.IntN.{ℤ}
 use mir.Syntax.{w64}
 use mir.Facts.{toZ-ofZ}
 use Rattle.whole.specs.Order.{T-true}
+use Rattle.rules.specs.declared.Agreement.the-variants.{Refused}
 use Rattle.rules.specs.declared.Line.the-variants.{LineA, LineB}
 use Rattle.rules.specs.declared.Refusal.{Refusal}
 use Rattle.rules.specs.Sheet.{distanceFits}
-use Rattle.rules.specs.Reply.{firstRefusal, orRefused}
+use Rattle.rules.specs.Reply.{firstRefusal, orRefused, agreementReply}
 use Rattle.rules.specs.Rows.{lengthChecks}
 use Rattle.rules.specs.Walk.{fresh}
 use Rattle.rules.specs.Questions.{agreed, agreeWalk, agreeReply}
+use Rattle.visits.proofs.Checks.{orElse}
 use Rattle.line.specs.declared.Checked.the-variants.{Fine}
 use Rattle.line.specs.Said.{checkedRefusal}
-use Rattle.near.proofs.Lengths.{orElse, lengths-fine}
-use Rattle.near.proofs.Sizes.{stored-abs, distance-abs}
+use Rattle.line.proofs.Lengths.{lengths-fine}
+use Rattle.line.proofs.Stored.{stored-abs}
+use Rattle.near.proofs.Sizes.{distance-abs}
 use Rattle.agree.proofs.Replies.{walksReply, distanceRefusal, agree-checked}
 use borrow.Author.Needs.{needs}
 use Rattle.agree.proofs.agree.Statement.{statement}
@@ -73,9 +76,14 @@ enum-told-2 c = search needs
 distance-fits-requires : tie.Need-distance-fits-requires
 distance-fits-requires c κs = search needs
 
+early-requires : tie.Need-early-requires
+early-requires c κs = search needs
+
 returns-3 : tie.Need-returns-3
 returns-3 c =
-    decided (c .before .before .before .before .before .before .before .before) (fine-a (c .before .before .before .before .before)) (fine-b (c .before .before)) (sym (distance-said (c .before)) ∙ not-true _ (c .if1 .taken))
+    let t = c .before in
+    ap (λ (r : Refusal). agreementReply (Refused r)) (c .early .ensures)
+    ∙ decided (t .before .before .before .before .before .before .before .before) (fine-a (t .before .before .before .before .before)) (fine-b (t .before .before)) (sym (distance-said (t .before)) ∙ not-true _ (t .if1 .taken))
 
 -- the distance passed
 fits : (c : tie.Else1) → distanceFits (c .before .before .before .before .before .before .before .before .args .distance) ≡ true
@@ -110,6 +118,7 @@ agree-spec =
     returns-2
     enum-told-2
     distance-fits-requires
+    early-requires
     returns-3
     ask-both-requires
     agreement-requires

@@ -8,7 +8,7 @@ use mir.Val.{toZ, ofZ}
 use Rattle.rules.specs.declared.Tally.{Tally}
 use Rattle.rules.specs.Sheet.{pointsOf}
 use Rattle.rules.specs.Questions.{Asked, askAll, onAllNear}
-use Rattle.near.proofs.Sizes.{stored, stored-abs}
+use Rattle.line.proofs.Stored.{stored, stored-abs}
 use Rattle.agree.specs.declared.Asking.{Asking}
 use Rattle.agree.specs.Said.{asked}
 use Rattle.agree.proofs.Points.{stops, next-point, no-point}

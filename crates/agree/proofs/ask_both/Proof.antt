@@ -5,7 +5,7 @@ use Rattle.rules.specs.declared.Line.the-variants.{LineA, LineB}
 use Rattle.rules.specs.declared.Tally.{Tally}
 use Rattle.rules.specs.Sheet.{pointsOf}
 use Rattle.rules.specs.Questions.{Asked, askAll, onAllNear, agreeWalk}
-use Rattle.near.proofs.Sizes.{stored, stored-abs}
+use Rattle.line.proofs.Stored.{stored, stored-abs}
 use Rattle.agree.specs.declared.Asking.{Asking}
 use Rattle.agree.specs.Said.{asked}
 use Rattle.agree.proofs.Points.{stops}

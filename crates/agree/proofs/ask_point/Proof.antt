@@ -6,8 +6,8 @@ use Rattle.rules.specs.declared.Point.{Point}
 use Rattle.rules.specs.Sheet.{point, onSheet}
 use Rattle.rules.specs.Walk.{Walked}
 use Rattle.rules.specs.Questions.{Nothing, allNear, onNear, nearWalk}
-use Rattle.near.proofs.OnSheets.{on-sheet}
-use Rattle.near.proofs.Sizes.{stored, stored-abs}
+use Rattle.visits.proofs.OnSheets.{on-sheet}
+use Rattle.line.proofs.Stored.{stored, stored-abs}
 use Rattle.agree.proofs.Points.{one-point}
 use borrow.Author.Needs.{needs}
 use Rattle.agree.proofs.ask_point.Statement.{statement}

@@ -1,6 +1,6 @@
 -- `heard` goes by the same cases as the definition.
 use mathlib.Core.Path.{_≡_}
-use Rattle.line.specs.declared.Walk.the-variants.{Spent}
+use Rattle.row.specs.declared.Walk.the-variants.{Spent}
 use borrow.Author.Needs.{needs}
 use Rattle.agree.proofs.heard.Statement.{statement}
 use Rattle.agree.proofs.heard.Tie as tie

@@ -17,11 +17,11 @@ use Rattle.inside.specs.declared.Step.{Step}
 use Rattle.inside.specs.declared.Step.the-variants.{Bad, Beyond, Finish, Halve}
 use Rattle.inside.specs.declared.RingWalk.{RingWalk}
 use Rattle.inside.specs.declared.RingWalk.the-variants as outcome
-use Rattle.inside.specs.Fine.{Stands}
+use Rattle.row.specs.Stands.{Stands}
 use Rattle.inside.specs.Said.{stepVisit, SplitsInside, ringWalked}
 use Rattle.inside.proofs.RingWalk.{the-type}
-use Rattle.inside.proofs.Places.{row-small, split-small, left-stands, right-stands}
-use Rattle.inside.proofs.Levels.{none-left, visited, halved}
+use Rattle.row.proofs.Places.{row-small, split-small, left-stands, right-stands}
+use Rattle.visits.proofs.Levels.{none-left, visited, halved}
 use borrow.Fn.Kinds.{In}
 use borrow.Fn.PlainCycle.{Measures, is, falls, and}
 use borrow.Author.Needs.{needs}
@@ -29,9 +29,9 @@ use Rattle.inside.proofs.walk.Reads as walk
 use Rattle.inside.proofs.walk.Kinds as walk-kinds
 use Rattle.inside.proofs.+walk.Lts-walk as walk-lts
 use Rattle.inside.proofs.add.Reads as add-reads
-use Rattle.inside.proofs.left_of.Reads as left-of-reads
+use Rattle.row.proofs.left_of.Reads as left-of-reads
 use Rattle.inside.proofs.refuse.Reads as refuse-reads
-use Rattle.inside.proofs.right_of.Reads as right-of-reads
+use Rattle.row.proofs.right_of.Reads as right-of-reads
 use Rattle.inside.proofs.visit.Reads as visit-reads
 use Rattle.rules.proofs.Tally.visit.Reads as Tally-visit-reads
 use Rattle.inside.proofs.+walk.{statement}

@@ -2,7 +2,9 @@
 use mathlib.Core.Path.{sym, _∙_}
 use borrow.Author.Tests.{not-true, not-false}
 use borrow.Author.Needs.{needs}
-use Rattle.inside.proofs.Visits.{open-beyond, open-halves}
+use Rattle.rules.specs.declared.Line.the-variants.{LineA}
+use Rattle.rules.specs.Walk.{halve}
+use Rattle.row.proofs.Opens.{beyond-refused, fitting-opened}
 use Rattle.inside.proofs.halve.Statement.{statement}
 use Rattle.inside.proofs.halve.Tie as tie
 
@@ -12,12 +14,12 @@ children-fit-requires c κs = search needs
 returns : tie.Need-returns
 returns c =
     let a = c .before .before .args in
-    (open-beyond (a .points .now) (a .node) (a .split) (sym (c .before .children-fit .ensures) ∙ not-true _ (c .if1 .taken)), tt)
+    (sym (beyond-refused LineA (a .points .now) (a .node) (a .split) halve (sym (c .before .children-fit .ensures) ∙ not-true _ (c .if1 .taken))), tt)
 
 returns-2 : tie.Need-returns-2
 returns-2 c =
     let a = c .before .before .args in
-    (open-halves (a .points .now) (a .node) (a .split) (sym (c .before .children-fit .ensures) ∙ not-false _ (c .if1 .left)), c .before .before .pre .3)
+    (sym (fitting-opened LineA (a .points .now) (a .node) (a .split) halve (sym (c .before .children-fit .ensures) ∙ not-false _ (c .if1 .left))), c .before .before .pre .3)
 
 pub halve-spec : {M : Type 1} → statement M
 halve-spec = tie.close (tie.spec children-fit-requires returns returns-2)

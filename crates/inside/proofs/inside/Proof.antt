@@ -1,22 +1,28 @@
 -- `inside` asks in the order of the checks; then the walk from the root stands in its line and its table.
-use mathlib.Core.Path.{_≡_, refl, sym, _∙_, ap}
-use mathlib.Core.Bool.{true}
+use mathlib.Core.Path.{_≡_, refl, sym, _∙_, ap, subst}
+use mathlib.Core.Bool.{true, false}
 use mathlib.Core.Option.{none}
+use Prim.Native.Nat.{_+_, _≤_}
 use native.Mathlib.Omega.{arith}
 use borrow.Author.Tests.{not-true, not-false}
 use Rattle.whole.specs.Order.{T-true}
 use Rattle.rules.specs.declared.Line.the-variants.{LineA}
+use Rattle.rules.specs.declared.Node.{Node}
+use Rattle.rules.specs.declared.Refusal.{Refusal}
+use Rattle.rules.specs.declared.Side.the-variants.{Refused}
 use Rattle.rules.specs.Sheet.{onSheet, segmentsOf}
 use Rattle.rules.specs.Reply.{sideReply, firstRefusal}
 use Rattle.rules.specs.Rows.{lengthChecks}
-use Rattle.rules.specs.Questions.{sideOfRing}
+use Rattle.rules.specs.Walk.{walk, fresh}
+use Rattle.rules.specs.Questions.{inVisit, sideOfRing}
 use Rattle.line.specs.declared.Checked.{Checked}
 use Rattle.line.specs.declared.Checked.the-variants.{Fine}
 use Rattle.line.specs.Said.{checkedRefusal}
-use Rattle.inside.specs.Fine.{LengthsFine}
-use Rattle.inside.proofs.Lengths.{lengths-fine}
-use Rattle.inside.proofs.OnSheets.{on-sheet}
-use Rattle.inside.proofs.Places.{root-stands}
+use Rattle.line.specs.Fine.{LengthsFine}
+use Rattle.line.proofs.Lengths.{lengths-fine}
+use Rattle.visits.proofs.OnSheets.{on-sheet}
+use Rattle.row.specs.Stands.{Stands}
+use Rattle.row.proofs.Places.{root-stands}
 use Rattle.inside.proofs.Replies.{in-checked}
 use borrow.Author.Needs.{needs}
 use Rattle.inside.proofs.inside.Statement.{statement}
@@ -58,7 +64,7 @@ early-requires c κs = search needs
 returns-2 : tie.Need-returns-2
 returns-2 c =
     let o = c .before .before in
-    ap sideReply (c .early .ensures) ∙ in-checked _ _ _ _ (fine (o .before)) (sym (o .on-sheet .ensures) ∙ not-true _ (c .before .if1 .taken)) refl
+    ap (λ (r : Refusal). sideReply (Refused r)) (c .early .ensures) ∙ in-checked _ _ _ _ (fine (o .before)) (sym (o .on-sheet .ensures) ∙ not-true _ (c .before .if1 .taken)) refl
 
 no-ring-requires : tie.Need-no-ring-requires
 no-ring-requires c κs = omega (arith, lengths (c .before .before) .some-points)
@@ -69,14 +75,17 @@ early-requires-2 c κs = search needs
 returns-3 : tie.Need-returns-3
 returns-3 c =
     let r = c .before .before in
-    ap sideReply (c .early2 .ensures) ∙ in-checked _ _ _ _ (fine (r .before .before .before)) (on (r .before)) (sym (r .no-ring .ensures) ∙ c .before .if2 .taken)
+    ap (λ (r : Refusal). sideReply (Refused r)) (c .early2 .ensures) ∙ in-checked _ _ _ _ (fine (r .before .before .before)) (on (r .before)) (sym (r .no-ring .ensures) ∙ c .before .if2 .taken)
 
 -- ---------------- the walk
-sub-t17 : tie.Need-sub-t17
-sub-t17 c = omega (arith, lengths (c .before .before .before .before) .some-points)
+root-requires : tie.Need-root-requires
+root-requires c κs = omega (arith, lengths (c .before .before .before .before) .some-points)
 
 walk-requires : tie.Need-walk-requires
-walk-requires c κs = (root-stands (lengths (c .before .before .before .before)), on-sheet _ (T-true (on (c .before .before))))
+walk-requires c κs =
+    let e = c .before in
+    let s = e .before .before .before .before .before .before .before in
+    (subst (Stands (s .args .points .now) (s .args .table .now)) (sym (c .root .ensures)) (root-stands (lengths (e .before .before .before .before))), on-sheet _ (T-true (on (e .before .before))))
 
 side-of-ring-requires : tie.Need-side-of-ring-requires
 side-of-ring-requires c κs = search needs
@@ -84,11 +93,15 @@ side-of-ring-requires c κs = search needs
 returns-4 : tie.Need-returns-4
 returns-4 c =
     let w = c .before in
-    let r = w .before .before in
+    let r = w .before .before .before in
     let s = r .before .before .before .before .before .before in
+    let a = s .args in
+    let f = segmentsOf (a .points .now) in
+    let e = w .before .root .ensures in
+    let walked = w .walk .ensures f (subst (λ (n : Node). n .last ≤ f + n .first) (sym e) (omega arith)) in
     c .side-of-ring .ensures
-    ∙ ap (sideOfRing (s .args .allowance)) (w .walk .ensures (segmentsOf (s .args .points .now)) (omega arith))
-    ∙ in-checked _ _ _ _ (fine (r .before .before .before)) (on (r .before)) (sym (r .no-ring .ensures) ∙ w .before .if2 .left)
+    ∙ ap (sideOfRing (a .allowance)) (walked ∙ (λ j. walk (inVisit (a .points .now) (a .table .now) (a .z)) f (e j) false (fresh (a .allowance))))
+    ∙ in-checked _ _ _ _ (fine (r .before .before .before)) (on (r .before)) (sym (r .no-ring .ensures) ∙ w .before .before .if2 .left)
 
 pub inside-spec : {M : Type 1} → statement M
 inside-spec =
@@ -104,7 +117,7 @@ inside-spec =
     no-ring-requires
     early-requires-2
     returns-3
-    sub-t17
+    root-requires
     walk-requires
     side-of-ring-requires
     returns-4)

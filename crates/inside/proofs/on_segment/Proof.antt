@@ -9,10 +9,10 @@ use Rattle.whole.specs.Order.{eqZ}
 use Rattle.whole.specs.Machine.{eq-bits}
 use Rattle.rules.specs.Plane.{step, cAt}
 use Rattle.rules.specs.Plain.{rangeHolds, onSegment}
-use Rattle.line.specs.Small.{Small}
+use Rattle.visits.specs.Small.{Small}
 use borrow.Author.Needs.{needs}
 use Rattle.inside.proofs.ReadBack.{read-back}
-use Rattle.inside.proofs.Steps.{step-small}
+use Rattle.visits.proofs.Sizes.{step-small}
 use Rattle.inside.proofs.on_segment.Statement.{statement}
 use Rattle.inside.proofs.on_segment.Tie as tie
 
@@ -60,13 +60,13 @@ returns-2 c =
     let f = sym (level-told (c .before)) ∙ not-true _ (c .if2 .taken) in
     sym (λ d. e d && f d && straight (b .before .before .before .before .before))
 
-step-to-requires : tie.Need-step-to-requires
-step-to-requires c κs = search needs
+step-requires : tie.Need-step-requires
+step-requires c κs = search needs
 
 c-at-requires : tie.Need-c-at-requires
 c-at-requires c κs =
     let p = c .before .before .before .before .before .before .before .before .before .before .before .pre in
-    (p .1, subst Small (sym (c .step-to .ensures)) (step-small (p .1) (p .2)), p .0)
+    (p .1, subst Small (sym (c .step .ensures)) (step-small (p .1) (p .2)), p .0)
 
 returns-3 : tie.Need-returns-3
 unfolding onSegment
@@ -76,7 +76,7 @@ returns-3 c =
     let s = b .before .before .before .before .before in
     let e = sym (beside-told (b .before)) ∙ not-false _ (b .if1 .left) in
     let f = sym (level-told (k .before)) ∙ not-false _ (k .if2 .left) in
-    let u = c .before .step-to .ensures in
+    let u = c .before .step .ensures in
     eq-bits w64 {x = c .c-at .result} {y = pos 0} (record { sfits = c .c-at .ok }) (sfits-lit {z = pos 0} tt)
     ∙ (λ d. eqZ (c .c-at .ensures d) (pos 0))
     ∙ (λ d. eqZ (cAt (s .args .a) (u d) (s .args .z)) (pos 0))
@@ -90,6 +90,6 @@ on-segment-spec =
     returns
     range-holds-requires-2
     returns-2
-    step-to-requires
+    step-requires
     c-at-requires
     returns-3)

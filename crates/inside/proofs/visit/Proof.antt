@@ -1,22 +1,16 @@
 -- `visit` reads the row and goes by the cases of the definition; a good row has its end points on the sheet, and its split
 -- inside the node.
-use mathlib.Core.Path.{_≡_, sym, _∙_, ap, subst}
+use mathlib.Core.Path.{_≡_, sym, _∙_, subst}
 use native.Mathlib.Omega.{arith}
 use borrow.Author.Tests.{not-true, not-false, le-leb, lt-leb}
-use lib.IntN.{natAbs}
-use mir.Syntax.{w64}
-use mir.Val.{toZ, ofZ}
 use Rattle.whole.specs.Order.{T-true}
-use Rattle.whole.specs.Machine.{nat-cast}
 use Rattle.rules.specs.Questions.{clearOf}
 use Rattle.visits.proofs.Nodes.{GoodRow, good-read}
-use Rattle.line.specs.Small.{OnSheet, Small}
+use Rattle.visits.specs.Small.{OnSheet, Small}
 use borrow.Author.Needs.{needs}
-use Rattle.inside.proofs.ReadBack.{read-back}
-use Rattle.inside.proofs.OnSheets.{on-sheet}
-use Rattle.inside.proofs.Places.{row-small}
-use Rattle.inside.proofs.Splits.{split-above}
-use Rattle.inside.proofs.Steps.{direction-small}
+use Rattle.visits.proofs.OnSheets.{on-sheet}
+use Rattle.row.proofs.Places.{row-small}
+use Rattle.visits.proofs.Sizes.{direction-small}
 use Rattle.inside.proofs.Visits.{RowRead, isClear, visit-bad, visit-clear, visit-leaf, visit-open}
 use Rattle.inside.proofs.visit.Statement.{statement}
 use Rattle.inside.proofs.visit.Tie as tie
@@ -99,27 +93,21 @@ returns-3 c =
     visit-leaf _ _ (start p .args .z) _ (read p) _ (sym (clear-told k) ∙ c .before .before .if2 .left) (le-leb _ _ (c .before .if3 .taken)) (c .test-leaf .ensures)
 
 -- ---------------- a split
--- as the cast reads it
-split-held : (c : tie.After-struct-told) → toZ w64 (ofZ w64 (read (c .before .before .before .before .before .before) .row .split)) ≡ read (c .before .before .before .before .before .before) .row .split
-split-held c = read-back _ (c .struct-told .given .1 .1 .0 .1)
-
-cast-halve : tie.Need-cast-halve
-cast-halve c =
-    let p = c .before .before .before .before .before .before in
-    nat-cast {w = w64} {w′ = w64} (record { sfits = c .struct-told .given .1 .1 .0 .1 }) tt (split-held c) (split-above _ _ _ _ (c .before .before .if3 .left) (T-true (read p .fine)))
+split-of-requires : tie.Need-split-of-requires
+split-of-requires c κs = good-row (c .before .before .before .before) .split-above (c .if3 .left)
 
 halve-requires : tie.Need-halve-requires
 halve-requires c κs =
-    let p = c .before .before .before .before .before .before in
+    let p = c .before .before .before .before .before in
     let s = start p .pre .0 in
-    (omega (arith, s .points-in), row-small s, omega (arith, s .points-in, s .fine .not-more), rw (split-held c) (good-row p .split-between (c .before .before .if3 .left)))
+    (omega (arith, s .points-in), row-small s, omega (arith, s .points-in, s .fine .not-more), rw (c .split-of .ensures) (good-row p .split-between (c .before .if3 .left)))
 
 returns-4 : tie.Need-returns-4
 returns-4 c =
-    let e = c .before .before .before in
+    let e = c .before .before in
     let k = e .before .before in
     let p = k .before .before in
-    let opened = visit-open _ _ (start p .args .z) _ (read p) _ (sym (clear-told k) ∙ e .before .if2 .left) (lt-leb _ _ (e .if3 .left)) (ap natAbs (split-held (c .before))) in
+    let opened = visit-open _ _ (start p .args .z) _ (read p) _ (sym (clear-told k) ∙ e .before .if2 .left) (lt-leb _ _ (e .if3 .left)) (c .before .split-of .ensures) in
     (c .halve .ensures .0 ∙ opened, c .halve .ensures .1)
 
 pub visit-spec : {M : Type 1} → statement M
@@ -138,6 +126,6 @@ visit-spec =
     add-if3
     test-leaf-requires
     returns-3
-    cast-halve
+    split-of-requires
     halve-requires
     returns-4)

@@ -1,13 +1,14 @@
 -- `check_lengths` asks in the order of the list, and each test is the one of the list.
-use mathlib.Core.Path.{_≡_, sym, _∙_, ap}
-use Prim.Native.Nat.{_*_, _%_}
+use mathlib.Core.Path.{sym, _∙_, ap}
+use mathlib.Core.Option.{some}
+use Prim.Native.Nat.{_*_}
 use borrow.Author.Tests.{eq-eqb, ne-eqb, lt-ltb, le-ltb}
-use lib.Dec.{eqb, ltb}
+use lib.Dec.{ltb}
 use lib.ListN.{length}
 use Rattle.rules.specs.Sheet.{pointsOf, segmentsOf, fewest, most}
 use Rattle.rules.specs.Tree.{width, rowCount}
-use Rattle.line.specs.Said.{checkedRefusal}
-use Rattle.line.proofs.Parts.{lengthsSay}
+use Rattle.rules.specs.declared.Refusal.{Refusal}
+use Rattle.line.proofs.Lengths.{lengthsSay}
 use borrow.Author.Needs.{needs}
 use Rattle.line.proofs.check_lengths.Statement.{statement}
 use Rattle.line.proofs.check_lengths.Tie as tie
@@ -20,7 +21,7 @@ returns c =
     let a = c .before .before .args in
     let ps = a .points .now in
     let t = a .table .now in
-    ap checkedRefusal (c .early .ensures) ∙ sym (λ d. lengthsSay (a .line) (eq-eqb _ _ (c .before .if1 .taken) d) (ltb (pointsOf ps) fewest) (ltb most (pointsOf ps)) (ltb (length t) (width * rowCount (segmentsOf ps))))
+    ap (λ (r : Refusal). some r) (c .early .ensures) ∙ sym (λ d. lengthsSay (a .line) (eq-eqb _ _ (c .before .if1 .taken) d) (ltb (pointsOf ps) fewest) (ltb most (pointsOf ps)) (ltb (length t) (width * rowCount (segmentsOf ps))))
 
 early-requires-2 : tie.Need-early-requires-2
 early-requires-2 c κs = search needs
@@ -30,7 +31,7 @@ returns-2 c =
     let a = c .before .before .before .args in
     let ps = a .points .now in
     let t = a .table .now in
-    ap checkedRefusal (c .early2 .ensures) ∙ sym (λ d. lengthsSay (a .line) (ne-eqb _ _ (c .before .before .if1 .left) d) (lt-ltb _ _ (c .before .if2 .taken) d) (ltb most (pointsOf ps)) (ltb (length t) (width * rowCount (segmentsOf ps))))
+    ap (λ (r : Refusal). some r) (c .early2 .ensures) ∙ sym (λ d. lengthsSay (a .line) (ne-eqb _ _ (c .before .before .if1 .left) d) (lt-ltb _ _ (c .before .if2 .taken) d) (ltb most (pointsOf ps)) (ltb (length t) (width * rowCount (segmentsOf ps))))
 
 early-requires-3 : tie.Need-early-requires-3
 early-requires-3 c κs = search needs
@@ -40,7 +41,7 @@ returns-3 c =
     let a = c .before .before .before .before .args in
     let ps = a .points .now in
     let t = a .table .now in
-    ap checkedRefusal (c .early3 .ensures) ∙ sym (λ d. lengthsSay (a .line) (ne-eqb _ _ (c .before .before .before .if1 .left) d) (le-ltb _ _ (c .before .before .if2 .left) d) (lt-ltb _ _ (c .before .if3 .taken) d) (ltb (length t) (width * rowCount (segmentsOf ps))))
+    ap (λ (r : Refusal). some r) (c .early3 .ensures) ∙ sym (λ d. lengthsSay (a .line) (ne-eqb _ _ (c .before .before .before .if1 .left) d) (le-ltb _ _ (c .before .before .if2 .left) d) (lt-ltb _ _ (c .before .if3 .taken) d) (ltb (length t) (width * rowCount (segmentsOf ps))))
 
 sub-if4 : tie.Need-sub-if4
 sub-if4 c = search needs
@@ -62,7 +63,7 @@ returns-4 c =
     let a = c .before .before .before .before .before .args in
     let ps = a .points .now in
     let t = a .table .now in
-    ap checkedRefusal (c .early4 .ensures) ∙ sym (λ d. lengthsSay (a .line) (ne-eqb _ _ (c .before .before .before .before .if1 .left) d) (le-ltb _ _ (c .before .before .before .if2 .left) d) (le-ltb _ _ (c .before .before .if3 .left) d) (lt-ltb _ _ (c .before .if4 .taken) d))
+    ap (λ (r : Refusal). some r) (c .early4 .ensures) ∙ sym (λ d. lengthsSay (a .line) (ne-eqb _ _ (c .before .before .before .before .if1 .left) d) (le-ltb _ _ (c .before .before .before .if2 .left) d) (le-ltb _ _ (c .before .before .if3 .left) d) (lt-ltb _ _ (c .before .if4 .taken) d))
 
 returns-5 : tie.Need-returns-5
 returns-5 c =

@@ -7,7 +7,6 @@ use mir.Syntax.{w32, w64}
 use mir.Val.{toZ, ofZ}
 use Rattle.whole.specs.Machine.{result}
 use borrow.Author.Needs.{needs}
-use borrow.Author.Needs.{needs, sfits-of}
 use Rattle.line.proofs.point_at.Statement.{statement}
 use Rattle.line.proofs.point_at.Tie as tie
 

@@ -5,7 +5,6 @@ use lib.IntN.{ℤ}
 use mir.Syntax.{Width, w64}
 use Rattle.whole.specs.Machine.{MExpr, rd, _⊕_, _⊖_, _⊗_, In, in-abs, safe-step, reads}
 use Rattle.whole.specs.Range.{Each, nil, _&_}
-use Rattle.line.specs.Small.{OnSheet, Small}
 use Rattle.line.proofs.t_at.Statement.{statement}
 use Rattle.line.proofs.t_at.Tie as tie
 

@@ -1,25 +1,19 @@
 -- `walk` takes one level of the written walk. The number of segments in the pair falls.
-use mathlib.Core.Path.{_≡_, refl, sym, _∙_, ap, subst}
-use mathlib.Core.List.{[], _∷_}
-use mathlib.Core.Logic.{⊎-elim}
+use mathlib.Core.Path.{_≡_, sym, _∙_, ap, subst}
 use Prim.Native.Nat.{ℕ, pred, _<_, _≤_}
 use native.Mathlib.Omega.{arith}
-use denote.Enum.Declared.{tagOf}
-use types.Run.{OneOf}
 use Rattle.rules.specs.declared.Pair.{Pair}
-use Rattle.rules.specs.declared.Tally.{Tally}
 use Rattle.rules.specs.declared.Next.the-variants.{Left, Spent}
 use Rattle.rules.specs.Walk.{next, Visit, Walked, goOn}
 use Rattle.rules.specs.Walk.{walk as writtenWalk}
 use Rattle.rules.specs.Questions.{Nothing, meetVisit}
-use Rattle.line.specs.declared.Walk.{Walk}
-use Rattle.line.specs.declared.Walk.the-variants as outcome
-use Rattle.line.proofs.Walk.{the-type}
-use Rattle.line.specs.Said.{walked}
+use Rattle.row.specs.declared.Walk.{Walk}
+use Rattle.row.specs.Said.{walked}
+use Rattle.row.proofs.Stops.{stops}
 use Rattle.meet.specs.declared.Step.{Step}
 use Rattle.meet.specs.declared.Step.the-variants.{Finish, Pass, Halve}
 use Rattle.meet.specs.Said.{stepVisit, segments}
-use Rattle.meet.proofs.Levels.{none-left, visited, halved}
+use Rattle.visits.proofs.Levels.{none-left, visited, halved}
 use Rattle.meet.proofs.Halves.{Halves, visit-halves}
 use borrow.Fn.Kinds.{In}
 use borrow.Fn.PlainCycle.{Measures, is, falls, and}
@@ -28,6 +22,7 @@ use Rattle.meet.proofs.walk.Reads as walk
 use Rattle.meet.proofs.walk.Kinds as walk-kinds
 use Rattle.meet.proofs.+walk.Lts-walk as walk-lts
 use Rattle.meet.proofs.visit.Reads as visit-reads
+use Rattle.row.proofs.refused.Reads as refused-reads
 use Rattle.rules.proofs.Tally.visit.Reads as Tally-visit-reads
 use Rattle.meet.proofs.+walk.{statement}
 use Rattle.meet.proofs.+walk.Tie.{close}
@@ -41,16 +36,9 @@ walk-at t = and 4 walk-kinds.ps (is 4 walk-kinds.ps μ-walk t) walk.Pre
 abbrev walk-below : ℕ → In 4 walk-kinds.ps
 walk-below t = and 4 walk-kinds.ps (falls 4 walk-kinds.ps _<_ μ-walk t) walk.Pre
 
--- what is not over stays as it is
-stops : (x : Walk) → OneOf (0 ∷ 2 ∷ 3 ∷ []) (tagOf the-type x) → (go : Nothing → Tally → Walked Nothing) → walked x ≡ goOn (walked x) go
-stops (outcome.Ended y) k go = refl
-stops (outcome.Over y) k go = absurd (⊎-elim (λ e. omega arith) (λ e. ⊎-elim (λ e. omega arith) (λ e. omega arith) e) k)
-stops outcome.Spent k go = refl
-stops (outcome.Refused r) k go = refl
-
 -- what is known of the functions that it calls
 abbrev claims : ℕ → walk-lts.Claims
-claims t = (Tally-visit-reads.Asked, Tally-visit-reads.Learnt, visit-reads.Asked, visit-reads.Learnt, walk-below t, walk.Post)
+claims t = (Tally-visit-reads.Asked, Tally-visit-reads.Learnt, visit-reads.Asked, visit-reads.Learnt, refused-reads.Asked, refused-reads.Learnt, walk-below t, walk.Post)
 
 module _ (t : ℕ) where
   -- the places of the code, and where they started
@@ -110,6 +98,9 @@ module _ (t : ℕ) where
   enum-known-number : walk-lts.Need-enum-known-number (claims t) (walk-at t) walk.Post
   enum-known-number c = search needs
 
+  refused-requires : walk-lts.Need-refused-requires (claims t) (walk-at t) walk.Post
+  refused-requires c κs = search needs
+
   enum-told-2 : walk-lts.Need-enum-told-2 (claims t) (walk-at t) walk.Post
   enum-told-2 c = search needs
 
@@ -160,8 +151,8 @@ module _ (t : ℕ) where
 
   returns-3 : walk-lts.Need-returns-3 (claims t) (walk-at t) walk.Post
   returns-3 c f h =
-      let w = c .before .before .before in
-      let s = origin w in visited (does s) (s .args .pair) tt (s .args .tally) f (some s f h) (made w) (seen w (c .before .number .given .1))
+      let w = c .before .before .before .before in
+      let s = origin w in c .refused .ensures ∙ visited (does s) (s .args .pair) tt (s .args .tally) f (some s f h) (made w) (seen w (c .before .before .number .given .1))
 
   returns-4 : walk-lts.Need-returns-4 (claims t) (walk-at t) walk.Post
   returns-4 c f h =
@@ -195,6 +186,7 @@ pub +walk-spec : {M : Type 1} → statement M
     (returns t)
     (visit-requires-2 t)
     (enum-known-number t)
+    (refused-requires t)
     (enum-told-2 t)
     (enum-told-3 t)
     (enum-known-left t)

@@ -8,7 +8,7 @@ use Rattle.rules.specs.declared.Row.{Row}
 use Rattle.rules.specs.Plane.{direction}
 use Rattle.rules.specs.Walk.{pass}
 use Rattle.rules.specs.Questions.{leaf, startOf, endOf, apart}
-use Rattle.line.specs.Small.{OnSheet}
+use Rattle.visits.specs.Small.{OnSheet}
 use Rattle.meet.specs.Pairs.{Placed}
 use Rattle.meet.specs.Said.{tested, opened}
 use Rattle.meet.proofs.GoodRows.{start-on, end-on, placed}

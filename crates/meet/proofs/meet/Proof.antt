@@ -12,11 +12,11 @@ use Rattle.rules.specs.Walk.{walk, fresh}
 use Rattle.rules.specs.Questions.{root, meetVisit, yesOrNo}
 use Rattle.line.specs.declared.Checked.the-variants.{Fine}
 use Rattle.line.specs.Said.{checkedRefusal}
-use Rattle.meet.specs.Fine.{LengthsFine}
+use Rattle.line.specs.Fine.{LengthsFine}
 use Rattle.meet.specs.Pairs.{PairStands}
 use Rattle.meet.specs.Said.{segments}
-use Rattle.meet.proofs.Lengths.{lengths-fine}
-use Rattle.meet.proofs.Places.{root-stands}
+use Rattle.line.proofs.Lengths.{lengths-fine}
+use Rattle.row.proofs.Places.{root-stands}
 use Rattle.meet.proofs.Replies.{meet-checked}
 use borrow.Author.Needs.{needs}
 use Rattle.meet.proofs.meet.Statement.{statement}

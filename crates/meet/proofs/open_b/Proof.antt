@@ -4,8 +4,8 @@ use mathlib.Core.Bool.{true, false}
 use borrow.Author.Tests.{not-true, not-false}
 use Rattle.rules.specs.declared.Line.the-variants.{LineB}
 use Rattle.rules.specs.Walk.{halve}
-use Rattle.line.specs.Said.{childrenFit}
-use Rattle.meet.proofs.Opens.{beyond-refused, fitting-opened}
+use Rattle.row.specs.Said.{childrenFit}
+use Rattle.row.proofs.Opens.{beyond-refused, fitting-opened}
 use borrow.Author.Needs.{needs}
 use Rattle.meet.proofs.open_b.Statement.{statement}
 use Rattle.meet.proofs.open_b.Tie as tie

@@ -3,10 +3,9 @@ use mathlib.Core.Path.{sym, _∙_}
 use mathlib.Core.Bool.{cond}
 use borrow.Author.Tests.{le-leb, lt-leb}
 use Rattle.rules.specs.Questions.{size, splitIn}
-use Rattle.visits.proofs.Nodes.{larger-opens}
+use Rattle.visits.proofs.Nodes.{larger-opens, other-opens}
 use Rattle.meet.specs.Said.{openedA, openedB}
-use Rattle.meet.proofs.GoodRows.{split-good, splits-inside}
-use Rattle.meet.proofs.Opens.{other-opens}
+use Rattle.meet.proofs.GoodRows.{split-above, splits-inside}
 use borrow.Author.Needs.{needs}
 use Rattle.meet.proofs.open_larger.Statement.{statement}
 use Rattle.meet.proofs.open_larger.Tie as tie
@@ -20,7 +19,7 @@ sub-if1-2 c = search needs
 split-of-requires : tie.Need-split-of-requires
 split-of-requires c κs =
     let p = c .before .before .before .before .before .pre in
-    let n = c .before .before .before .before .before .args .pair in (larger-opens (n .a) (n .b) (p .1) (c .if1 .taken), split-good (p .0 .0))
+    let n = c .before .before .before .before .before .args .pair in split-above (p .0 .0) (larger-opens (n .a) (n .b) (p .1) (c .if1 .taken))
 
 open-a-requires : tie.Need-open-a-requires
 open-a-requires c κs =
@@ -39,7 +38,7 @@ returns c =
 split-of-requires-2 : tie.Need-split-of-requires-2
 split-of-requires-2 c κs =
     let p = c .before .before .before .before .before .pre in
-    let n = c .before .before .before .before .before .args .pair in (other-opens (n .a) (n .b) (p .1) (c .if1 .left), split-good (p .0 .1))
+    let n = c .before .before .before .before .before .args .pair in split-above (p .0 .1) (other-opens (n .a) (n .b) (p .1) (c .if1 .left))
 
 open-b-requires : tie.Need-open-b-requires
 open-b-requires c κs =

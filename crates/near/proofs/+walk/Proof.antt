@@ -1,38 +1,32 @@
 -- `walk` takes one level of the written walk. The number of segments in the range falls.
-use mathlib.Core.Path.{_≡_, refl, sym, _∙_, ap, subst}
-use mathlib.Core.List.{[], _∷_}
-use mathlib.Core.Logic.{⊎-elim}
+use mathlib.Core.Path.{_≡_, sym, _∙_, ap, subst}
 use Prim.Native.Nat.{ℕ, pred, _+_, _-_, _<_, _≤_}
 use native.Mathlib.Omega.{arith}
-use denote.Enum.Declared.{tagOf}
-use types.Run.{OneOf}
 use lib.IntN.{ℤ}
 use Rattle.rules.specs.declared.Node.{Node}
-use Rattle.rules.specs.declared.Tally.{Tally}
 use Rattle.rules.specs.declared.Next.the-variants.{Left, Spent}
 use Rattle.rules.specs.Walk.{next, Visit, Walked, goOn}
 use Rattle.rules.specs.Walk.{walk as writtenWalk}
 use Rattle.rules.specs.Questions.{Nothing, rightOf, nearVisit}
-use Rattle.line.specs.declared.Walk.{Walk}
-use Rattle.line.specs.declared.Walk.the-variants as outcome
-use Rattle.line.proofs.Walk.{the-type}
-use Rattle.line.specs.Said.{walked}
+use Rattle.row.specs.declared.Walk.{Walk}
+use Rattle.row.specs.Said.{walked}
 use Rattle.near.specs.declared.Visited.{Visited}
 use Rattle.near.specs.declared.Visited.the-variants.{Bad, Beyond, Finish, Pass, Halve}
-use Rattle.near.specs.Fine.{Stands}
+use Rattle.row.specs.Stands.{Stands}
 use Rattle.near.specs.Said.{visitOf, SplitsInside}
-use Rattle.near.proofs.Sizes.{stored, stored-abs}
-use Rattle.near.proofs.Places.{row-small, split-small, left-stands, right-stands}
-use Rattle.near.proofs.Levels.{none-left, visited, halved}
+use Rattle.line.proofs.Stored.{stored, stored-abs}
+use Rattle.row.proofs.Stops.{stops}
+use Rattle.row.proofs.Places.{row-small, split-small, left-stands, right-stands}
+use Rattle.visits.proofs.Levels.{none-left, visited, halved}
 use borrow.Fn.Kinds.{In}
 use borrow.Fn.PlainCycle.{Measures, is, falls, and}
 use borrow.Author.Needs.{needs}
 use Rattle.near.proofs.walk.Reads as walk
 use Rattle.near.proofs.walk.Kinds as walk-kinds
 use Rattle.near.proofs.+walk.Lts-walk as walk-lts
-use Rattle.near.proofs.left_of.Reads as left-of-reads
-use Rattle.near.proofs.refused.Reads as refused-reads
-use Rattle.near.proofs.right_of.Reads as right-of-reads
+use Rattle.row.proofs.left_of.Reads as left-of-reads
+use Rattle.row.proofs.refused.Reads as refused-reads
+use Rattle.row.proofs.right_of.Reads as right-of-reads
 use Rattle.near.proofs.visit.Reads as visit-reads
 use Rattle.rules.proofs.Tally.visit.Reads as Tally-visit-reads
 use Rattle.near.proofs.+walk.{statement}
@@ -46,13 +40,6 @@ walk-at t = and 2 walk-kinds.ps (is 2 walk-kinds.ps μ-walk t) walk.Pre
 
 abbrev walk-below : ℕ → In 2 walk-kinds.ps
 walk-below t = and 2 walk-kinds.ps (falls 2 walk-kinds.ps _<_ μ-walk t) walk.Pre
-
--- what is not over stays as it is
-stops : (x : Walk) → OneOf (0 ∷ 2 ∷ 3 ∷ []) (tagOf the-type x) → (go : Nothing → Tally → Walked Nothing) → walked x ≡ goOn (walked x) go
-stops (outcome.Ended y) k go = refl
-stops (outcome.Over y) k go = absurd (⊎-elim (λ e. omega arith) (λ e. ⊎-elim (λ e. omega arith) (λ e. omega arith) e) k)
-stops outcome.Spent k go = refl
-stops (outcome.Refused r) k go = refl
 
 -- what is known of the functions that it calls
 abbrev claims : ℕ → walk-lts.Claims

@@ -6,8 +6,9 @@ use Rattle.whole.specs.Laws.{zarith, one-r}
 use Rattle.whole.specs.Range.{abs-weaken}
 use Rattle.rules.specs.declared.Point.{Point}
 use Rattle.rules.specs.Plane.{step, size²}
-use Rattle.line.specs.Small.{Small}
-use Rattle.near.proofs.Sizes.{stored, stored-abs, step-small}
+use Rattle.visits.specs.Small.{Small}
+use Rattle.visits.proofs.Sizes.{step-small}
+use Rattle.line.proofs.Stored.{stored, stored-abs}
 use borrow.Author.Needs.{needs}
 use Rattle.near.proofs.apart.Statement.{statement}
 use Rattle.near.proofs.apart.Tie as tie

@@ -9,7 +9,9 @@ use Rattle.whole.specs.Machine.{result}
 use Rattle.whole.specs.Range.{abs-at}
 use Rattle.rules.specs.Plane.{cAt, tAt}
 use Rattle.rules.specs.Questions.{shortfall, farFrom}
-use Rattle.near.proofs.Sizes.{stored, stored-abs, c-wide, t-wide, size-wide, shortfall-wide}
+use Rattle.visits.proofs.Sizes.{c-wide, t-wide, size-wide}
+use Rattle.line.proofs.Stored.{stored, stored-abs}
+use Rattle.near.proofs.Sizes.{shortfall-wide}
 use borrow.Author.Needs.{needs}
 use Rattle.near.proofs.far_from.Statement.{statement}
 use Rattle.near.proofs.far_from.Tie as tie

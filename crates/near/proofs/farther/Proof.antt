@@ -7,7 +7,7 @@ use mir.Syntax.{Width, w64}
 use Rattle.whole.specs.Machine.{MExpr, rd, _⊕_, _⊗_, In, in-abs, safe-step, reads}
 use Rattle.whole.specs.Range.{Each, nil, _&_}
 use Rattle.rules.specs.Sheet.{farthest}
-use Rattle.near.specs.Bounds.{widest}
+use Rattle.visits.specs.Small.{widest}
 use Rattle.near.proofs.farther.Statement.{statement}
 use Rattle.near.proofs.farther.Tie as tie
 

@@ -7,6 +7,7 @@ use lib.IntN.{ℤ}
 use mir.Syntax.{w64}
 use mir.Facts.{toZ-ofZ}
 use Rattle.whole.specs.Order.{T-true}
+use Rattle.rules.specs.declared.Answer.the-variants.{Refused}
 use Rattle.rules.specs.declared.Line.the-variants.{LineA}
 use Rattle.rules.specs.declared.Refusal.{Refusal}
 use Rattle.rules.specs.Sheet.{distanceFits, onSheet}
@@ -16,9 +17,10 @@ use Rattle.rules.specs.Walk.{fresh}
 use Rattle.rules.specs.Questions.{yesOrNo, nearWalk}
 use Rattle.line.specs.declared.Checked.the-variants.{Fine}
 use Rattle.line.specs.Said.{checkedRefusal}
-use Rattle.near.proofs.OnSheets.{on-sheet}
-use Rattle.near.proofs.Sizes.{stored-abs, distance-abs}
-use Rattle.near.proofs.Lengths.{lengths-fine}
+use Rattle.visits.proofs.OnSheets.{on-sheet}
+use Rattle.line.proofs.Stored.{stored-abs}
+use Rattle.near.proofs.Sizes.{distance-abs}
+use Rattle.line.proofs.Lengths.{lengths-fine}
 use Rattle.near.proofs.Replies.{near-checked}
 use borrow.Author.Needs.{needs}
 use Rattle.near.proofs.near.Statement.{statement}
@@ -57,7 +59,7 @@ early-requires c κs = search needs
 returns-2 : tie.Need-returns-2
 returns-2 c =
     let a = c .before .before .before .before .before .before .args in
-    ap answerReply (c .early .ensures)
+    ap (λ (r : Refusal). answerReply (Refused r)) (c .early .ensures)
     ∙ near-checked (a .points .now) (a .table .now) (a .z) (a .distance) (a .allowance) (fine (c .before .before .before)) (sym (distance-said (c .before .before)) ∙ not-true _ (c .before .if1 .taken)) refl
 
 on-sheet-requires : tie.Need-on-sheet-requires
@@ -73,7 +75,7 @@ fits c = sym (distance-said (c .before)) ∙ not-false _ (c .if1 .left)
 returns-3 : tie.Need-returns-3
 returns-3 c =
     let a = c .before .before .before .before .before .before .before .before .args in
-    ap answerReply (c .early2 .ensures)
+    ap (λ (r : Refusal). answerReply (Refused r)) (c .early2 .ensures)
     ∙ near-checked (a .points .now) (a .table .now) (a .z) (a .distance) (a .allowance) (fine (c .before .before .before .before .before)) (fits (c .before .before .before)) (sym (c .before .before .on-sheet .ensures) ∙ not-true _ (c .before .if2 .taken))
 
 on : (c : tie.Else2) → onSheet (c .before .before .before .before .before .before .before .args .z) ≡ true

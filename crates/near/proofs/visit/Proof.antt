@@ -2,15 +2,12 @@
 use mathlib.Core.Path.{_≡_, refl, sym, _∙_, ap, subst}
 use mathlib.Core.Bool.{Bool, true, false, not}
 use mathlib.Core.List.{List}
-use Prim.Native.Nat.{_<_}
+use Prim.Native.Nat.{ℕ, _<_}
 use native.Mathlib.Omega.{arith}
 use borrow.Author.Tests.{not-true, not-false, le-leb, lt-leb}
-use lib.IntN.{ℤ, natAbs}
-use mir.Syntax.{w64}
-use mir.Val.{toZ, ofZ}
+use lib.IntN.{ℤ, pos}
+use lib.Signed.{_≤ℤ_}
 use Rattle.whole.specs.Order.{T-true}
-use Rattle.whole.specs.Machine.{nat-cast}
-use Rattle.whole.specs.Range.{Abs≤, fits-of}
 use Rattle.rules.specs.declared.Line.{Line}
 use Rattle.rules.specs.declared.Row.{Row}
 use Rattle.rules.specs.Plane.{direction}
@@ -20,11 +17,14 @@ use Rattle.rules.specs.Rows.{good}
 use Rattle.rules.specs.Walk.{halve}
 use Rattle.rules.specs.Questions.{leaf, leftOf, rightOf, splitIn, startOf, endOf, headingOf, farFrom, nearVisit}
 use Rattle.visits.proofs.Nodes.{GoodRow, good-read}
-use Rattle.line.specs.Small.{OnSheet, Small}
+use Rattle.visits.specs.Small.{OnSheet, Small}
 use Rattle.near.specs.Bounds.{HoldsStart}
-use Rattle.near.proofs.OnSheets.{on-sheet}
-use Rattle.near.proofs.Sizes.{stored, stored-abs, direction-small}
-use Rattle.near.proofs.Visits.{tested, beyond, visit-tested, split-above}
+use Rattle.visits.proofs.OnSheets.{on-sheet}
+use Rattle.visits.proofs.Sizes.{direction-small}
+use Rattle.line.proofs.Stored.{stored, stored-abs}
+use Rattle.row.specs.Said.{beyond}
+use Rattle.row.proofs.Places.{row-small, split-small}
+use Rattle.near.proofs.Visits.{tested, visit-tested}
 use borrow.Author.Needs.{needs}
 use Rattle.near.proofs.visit.Statement.{statement}
 use Rattle.near.proofs.visit.Tie as tie
@@ -147,48 +147,44 @@ returns-4 c =
     (λ l. decided s l (was-good (c .before .before .before .before .before .before .before .before)) f k (sym (within-said (c .before)) ∙ c .if4 .left) refl, tt)
 
 -- ---------------- two halves
-abbrev start : tie.After-struct-told → tie.Start
-start c = c .before .before .before .before .before .before .before .before .before .before .before
+split-of-requires : tie.Need-split-of-requires
+split-of-requires c κs =
+    let r = c .before .before .before .before .before .before .before .before .row-at .ensures in
+    subst (λ (r : Row). pos 0 ≤ℤ r .split) (sym r) (tells (c .before .before .before .before .before .before) .split-above (c .if3 .left))
 
-inside : (c : tie.After-struct-told) → (start c .args .node .first < splitIn (row (start c))) × (splitIn (row (start c)) < start c .args .node .last)
-inside c = tells (c .before .before .before .before .before .before .before .before) .split-between (c .before .before .if3 .left)
+abbrev start : tie.After-split-of → tie.Start
+start c = c .before .before .before .before .before .before .before .before .before .before
 
-split-small : (c : tie.After-struct-told) → Abs≤ 4097 (row (start c) .split)
-split-small c = let h = inside c in let p = start c .pre .0 in record { abs = omega (arith, p .points-in, p .fine .not-more) }
+inside : (c : tie.After-split-of) → (start c .args .node .first < splitIn (row (start c))) × (splitIn (row (start c)) < start c .args .node .last)
+inside c = tells (c .before .before .before .before .before .before .before) .split-between (c .before .if3 .left)
 
-split-read : (c : tie.After-struct-told) → toZ w64 (ofZ w64 (c .before .before .before .before .before .before .before .before .before .before .row-at .result .split)) ≡ row (start c) .split
-split-read c =
-    ap (λ (r : Row). toZ w64 (ofZ w64 (r .split))) (c .before .before .before .before .before .before .before .before .before .before .row-at .ensures) ∙ stored (split-small c) tt
-
-cast-split : tie.Need-cast-split
-cast-split c =
-    let n = start c .args .node in
-    nat-cast {w = w64} {w′ = w64} (fits-of w64 (split-small c) tt) tt (split-read c) (split-above (ps (start c)) (row (start c)) (n .first) (n .last) (c .before .before .if3 .left) (T-true (was-good (c .before .before .before .before .before .before .before .before))))
+split-said : (c : tie.After-split-of) → c .split-of .result ≡ splitIn (row (start c))
+split-said c = c .split-of .ensures ∙ ap (λ (r : Row). splitIn r) (c .before .before .before .before .before .before .before .before .before .row-at .ensures)
 
 children-fit-requires : tie.Need-children-fit-requires
 children-fit-requires c κs =
     let h = inside c in
     let p = start c .pre .0 in
     let n = start c .args .node in
-    let e = sym (split-read c) in (
+    let e = sym (split-said c) in (
       omega (arith, p .fine .some-points),
-      subst (λ (x : ℤ). n .first < natAbs x) e (h .0),
-      subst (λ (x : ℤ). natAbs x < 4097) e (omega (arith, p .points-in, p .fine .not-more)),
-      omega (arith, p .rows-in, p .fine .not-more),
+      subst (λ (x : ℕ). n .first < x) e (h .0),
+      subst (λ (x : ℕ). x < 4097) e (split-small p (h .0) (h .1)),
+      row-small p,
     )
 
 beyond-said : (c : tie.After-children-fit) → c .children-fit .result ≡ not (beyond (ps (start (c .before))) (start (c .before) .args .node) (splitIn (row (start (c .before)))))
 beyond-said c =
-    let s = start (c .before) in c .children-fit .ensures ∙ ap (λ (x : ℤ). not (beyond (ps s) (s .args .node) (natAbs x))) (split-read (c .before))
+    let s = start (c .before) in c .children-fit .ensures ∙ ap (λ (x : ℕ). not (beyond (ps s) (s .args .node) x)) (split-said (c .before))
 
 -- the tests that came before
-opened : (c : tie.After-struct-told) (l : Line) {b : Bool} → beyond (ps (start c)) (start c .args .node) (splitIn (row (start c))) ≡ b
+opened : (c : tie.After-split-of) (l : Line) {b : Bool} → beyond (ps (start c)) (start c .args .node) (splitIn (row (start c))) ≡ b
     → tested l (start c .args .node) (splitIn (row (start c))) true false false (isWithin (start c)) b
     ≡ nearVisit l (ps (start c)) (start c .args .table .now) (start c .args .z) (start c .args .d) (start c .args .node)
 opened c l e =
-    let f = sym (far-said (c .before .before .before .before)) ∙ c .before .before .before .if2 .left in
-    let k = lt-leb _ _ (c .before .before .if3 .left) in
-    decided (start c) l (was-good (c .before .before .before .before .before .before .before .before)) f k refl e
+    let f = sym (far-said (c .before .before .before)) ∙ c .before .before .if2 .left in
+    let k = lt-leb _ _ (c .before .if3 .left) in
+    decided (start c) l (was-good (c .before .before .before .before .before .before .before)) f k refl e
 
 returns-5 : tie.Need-returns-5
 returns-5 c = (λ l. opened (c .before .before) l (not-false _ (sym (beyond-said (c .before)) ∙ not-true _ (c .if5 .taken))), tt)
@@ -197,9 +193,9 @@ returns-6 : tie.Need-returns-6
 returns-6 c =
     let n = start (c .before .before) .args .node in
     let h = inside (c .before .before) in
-    let e = split-read (c .before .before) in (
-      λ l. (λ i. halve (leftOf n (natAbs (e i))) (rightOf n (natAbs (e i)))) ∙ opened (c .before .before) l (not-true _ (sym (beyond-said (c .before)) ∙ not-false _ (c .if5 .left))),
-      (subst (λ (x : ℤ). n .first < natAbs x) (sym e) (h .0), subst (λ (x : ℤ). natAbs x < n .last) (sym e) (h .1)),
+    let e = split-said (c .before .before) in (
+      λ l. (λ i. halve (leftOf n (e i)) (rightOf n (e i))) ∙ opened (c .before .before) l (not-true _ (sym (beyond-said (c .before)) ∙ not-false _ (c .if5 .left))),
+      (subst (λ (x : ℕ). n .first < x) (sym e) (h .0), subst (λ (x : ℕ). x < n .last) (sym e) (h .1)),
     )
 
 pub visit-spec : {M : Type 1} → statement M
@@ -218,7 +214,7 @@ visit-spec =
     within-requires
     returns-3
     returns-4
-    cast-split
+    split-of-requires
     children-fit-requires
     returns-5
     returns-6)

@@ -10,8 +10,9 @@ use Rattle.whole.specs.Machine.{result}
 use Rattle.whole.specs.Range.{abs-at}
 use Rattle.rules.specs.declared.Point.{Point}
 use Rattle.rules.specs.Plane.{step, size², cAt, tAt}
-use Rattle.line.specs.Small.{Small}
-use Rattle.near.proofs.Sizes.{stored, stored-abs, step-small, c-wide, size-wide}
+use Rattle.visits.specs.Small.{Small}
+use Rattle.visits.proofs.Sizes.{step-small, c-wide, size-wide}
+use Rattle.line.proofs.Stored.{stored, stored-abs}
 use Rattle.near.proofs.Segment.{within-start, within-end, within-along}
 use borrow.Author.Needs.{needs}
 use Rattle.near.proofs.within.Statement.{statement}

@@ -10,7 +10,7 @@ use Rattle.whole.specs.Check.{con, _:-_, :neg, _:=_, ring}
 use Rattle.whole.specs.Order.{lt-yes, lt-no}
 use Rattle.whole.specs.Range.{Abs≤, nil, _&_, abs-neg, fits}
 use Rattle.whole.specs.Machine.{MExpr, lit, rd, _⊖_, in-abs, safe-step, reads, nat-cast}
-use Rattle.built.specs.RowRange.{stripMost}
+use Rattle.visits.specs.Small.{widest}
 use borrow.Author.Needs.{needs}
 use Rattle.build.proofs.run.height.Statement.{statement}
 use Rattle.build.proofs.run.height.Tie as tie
@@ -18,7 +18,7 @@ use Rattle.build.proofs.run.height.Tie as tie
 abbrev formula : MExpr → MExpr
 formula v = rd w64 (lit (pos 0) ⊖ v)
 
-negated : (v : ℤ) → Abs≤ stripMost v → toZ w64 (ofZ w64 (pos 0 -ℤ toZ w64 (ofZ w64 v))) ≡ negℤ v
+negated : (v : ℤ) → Abs≤ widest v → toZ w64 (ofZ w64 (pos 0 -ℤ toZ w64 (ofZ w64 v))) ≡ negℤ v
 negated v h = reads 1 formula (in-abs h tt & nil) tt ∙ ring 1 (λ a. con (pos 0) :- a := :neg a) tt v
 
 neg-above : {v : ℤ} → v <ℤ pos 0 → pos 0 ≤ℤ negℤ v

@@ -5,14 +5,16 @@ use Prim.Native.Nat.{ℕ, _+_, _-_, _≤_, _<_}
 use native.Mathlib.Numerals.{add-one}
 use native.Mathlib.Omega.{arith}
 use lib.IntN.{ℤ}
+use Rattle.whole.specs.Order.{T-true}
 use Rattle.rules.specs.declared.Point.{Point}
 use Rattle.rules.specs.Plane.{direction, cAt, tAt}
 use Rattle.rules.specs.Sheet.{point, pointsOf, segmentsOf}
 use Rattle.rules.specs.Tree.{nodeC, nodeT}
-use Rattle.line.specs.Small.{OnSheet, Small}
+use Rattle.visits.specs.Small.{OnSheet, Small}
+use Rattle.visits.proofs.OnSheets.{on-sheet}
+use Rattle.visits.proofs.Sizes.{direction-small}
 use Rattle.build.specs.declared.run.Measured.{Measured}
 use Rattle.build.specs.Run.{AllOnSheet, startOf, measuredWith}
-use Rattle.build.proofs.Sizes.{on-sheet, direction-small}
 use Rattle.build.proofs.SoFar.{soFar, top-below, so-far-start, so-far-more, so-far-all}
 use Rattle.build.proofs.run.measure.Statement.{statement}
 use Rattle.build.proofs.run.measure.Tie as tie
@@ -25,7 +27,7 @@ abbrev μ-loop : tie.MeasureT-loop
 
 -- a point that is read is on the sheet
 read-on : (q : List ℤ) → AllOnSheet q → (i : ℕ) → i < pointsOf q → {p : Point} → p ≡ point q i → OnSheet p
-read-on q h i l e = subst OnSheet (sym e) (on-sheet (point q i) (h i l))
+read-on q h i l e = subst OnSheet (sym e) (on-sheet (point q i) (T-true (h i l)))
 
 sub-last : tie.Need-sub-last Inv-loop μ-loop
 sub-last c = omega arith
@@ -65,7 +67,7 @@ with-requires c κs =
     let to = read-on q (s .pre .0) (segmentsOf q) (omega arith) (c .before .before .before .before .before .point-at2 .ensures) in
     let top = ap (λ (m : Measured). m .top .split) (c .before .before .loop .inv .1) in (
       from,
-      subst Small (sym (c .before .before .before .before .direction .ensures)) (direction-small _ _ from to),
+      subst Small (sym (c .before .before .before .before .direction .ensures)) (direction-small from to),
       read-on q (s .pre .0) (i + 1) (omega arith) (c .point-at3 .ensures),
       omega (arith, top, top-below q (segmentsOf q) i),
       omega arith,

@@ -4,8 +4,8 @@ use mir.Syntax.{w64}
 use Rattle.whole.specs.Machine.{result}
 use Rattle.rules.specs.Plane.{step, cAt}
 use Rattle.rules.specs.Plain.{oneSide}
-use Rattle.line.specs.Small.{Small}
-use Rattle.meet.proofs.Sizes.{step-small}
+use Rattle.visits.specs.Small.{Small}
+use Rattle.visits.proofs.Sizes.{step-small}
 use borrow.Author.Needs.{needs}
 use Rattle.meet.proofs.segments.both_aside.Statement.{statement}
 use Rattle.meet.proofs.segments.both_aside.Tie as tie

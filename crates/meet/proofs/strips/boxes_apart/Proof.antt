@@ -7,7 +7,7 @@ use mir.Syntax.{w64}
 use mir.Val.{toZ, ofZ}
 use Rattle.whole.specs.Range.{Abs≤}
 use Rattle.rules.specs.Sheet.{limit}
-use Rattle.meet.proofs.Sizes.{stored}
+use Rattle.line.proofs.Stored.{stored}
 use Rattle.meet.proofs.strips.boxes_apart.Statement.{statement}
 use Rattle.meet.proofs.strips.boxes_apart.Tie as tie
 

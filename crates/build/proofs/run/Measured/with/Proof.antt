@@ -6,8 +6,8 @@ use mir.Val.{SFits}
 use mir.Facts.{toZ-ofZ}
 use Rattle.whole.specs.Range.{abs-at}
 use Rattle.whole.specs.Machine.{result}
+use Rattle.visits.proofs.Sizes.{c-wide}
 use Rattle.build.specs.Run.{spanWith, topWith}
-use Rattle.build.proofs.Sizes.{c-size}
 use borrow.Author.Needs.{needs}
 use Rattle.build.proofs.run.Measured.with.Statement.{statement}
 use Rattle.build.proofs.run.Measured.with.Tie as tie
@@ -33,9 +33,8 @@ with-requires-4 c κs = search needs
 height-requires : tie.Need-height-requires
 height-requires c κs =
     let s = c .before .before .before .before .before .before .before .before in
-    let a = s .args in
     let call = c .before .before .before .before .before .before .before .c-at in
-    abs-at (sym (result w64 (call .ok) (call .ensures))) (c-size (a .s) (a .u) (a .p) (s .pre .0) (s .pre .1) (s .pre .2))
+    abs-at (sym (result w64 (call .ok) (call .ensures))) (c-wide (s .pre .0) (s .pre .1) (s .pre .2))
 
 with-requires-5 : tie.Need-with-requires-5
 with-requires-5 c κs = search needs

@@ -1,0 +1,35 @@
+-- Where a node stands: the root stands inside its line and its table, and so do the halves of a node that does.
+use mathlib.Core.List.{List}
+use Prim.Native.Nat.{ℕ, _<_}
+use native.Mathlib.Omega.{arith}
+use lib.IntN.{ℤ}
+use Rattle.rules.specs.declared.Node.{Node}
+use Rattle.rules.specs.Sheet.{segmentsOf}
+use Rattle.rules.specs.Tree.{rowCount}
+use Rattle.rules.specs.Questions.{root, leftOf, rightOf}
+use Rattle.visits.proofs.Nodes.{Fits, root-fits, fits-row, fits-left, fits-right}
+use Rattle.line.specs.Fine.{LengthsFine}
+use Rattle.row.specs.Stands.{Stands}
+
+pub root-stands : {ps t : List ℤ} → LengthsFine ps t → Stands ps t (root ps)
+root-stands {ps} f =
+    let h = root-fits ps (omega (arith, f .some-points)) in record { fine = f; some-segment = h .some-segment; points-in = omega arith; rows-in = h .below }
+
+module _ {ps t : List ℤ} {n : Node} (h : Stands ps t n) where
+  fits : Fits (rowCount (segmentsOf ps)) n
+  fits = record { some-segment = h .some-segment; below = h .rows-in }
+
+  pub row-small : n .row < 8193
+  row-small = let b = fits-row _ _ fits in omega (arith, h .fine .not-more)
+
+  module _ {s : ℕ} (low : n .first < s) (high : s < n .last) where
+    pub left-stands : Stands ps t (leftOf n s)
+    left-stands =
+        let f = fits-left _ n fits s low high in
+        record { fine = h .fine; some-segment = f .some-segment; points-in = omega (arith, h .points-in); rows-in = f .below }
+
+    pub right-stands : Stands ps t (rightOf n s)
+    right-stands = let f = fits-right _ n fits s low high in record { fine = h .fine; some-segment = f .some-segment; points-in = h .points-in; rows-in = f .below }
+
+    pub split-small : s < 4097
+    split-small = omega (arith, h .points-in, h .fine .not-more)
