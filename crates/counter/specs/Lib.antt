@@ -1,0 +1,4 @@
+-- The carried state in the words of the definitions of the question program, and the turn of a text line.
+pub mod Carried
+pub mod Turns
+pub mod Runs

@@ -1,0 +1,116 @@
+// The question program on slices: what a text line comes to, and what a chunk of bytes prints. The program above it only reads
+// and writes. `feed` and `finish` say what is printed by the definitions of `desk`, however the input is cut into chunks.
+mod bytes;
+mod points;
+mod turns;
+
+use bytes::feed_byte;
+use bytes::print_turn;
+use desk::Held;
+use print::Said;
+use rules::Line;
+use turns::turn_line;
+ghost use mathlib.Core.Path.{_≡_};
+ghost use mathlib.Core.List.{List};
+ghost use Prim.Native.Nat.{ℕ, _+_, _*_, _≤_, _<_, _^_};
+ghost use lib.IntN.{ℤ};
+ghost use lib.ListN.{length};
+ghost use Rattle.print.specs.Printed.{widest};
+ghost use Rattle.print.specs.Put.{Put};
+ghost use Rattle.desk.specs.Chunks.{begun, printLast};
+ghost use Rattle.counter.specs.Carried.{carryOf, keptBytes, Lent, Bounds, Feeds};
+
+// What is carried beside the lent slices: where points go, how the two lines are held, the text lines read, the lines
+// printed, and the bytes kept of the text line that has not ended.
+pub struct State {
+    pub target: Line,
+    pub a: Held,
+    pub b: Held,
+    pub read: usize,
+    pub printed: u64,
+    pub pending: usize,
+}
+
+// What a chunk comes to: the bytes that it prints stand at the front of the lent slice.
+pub struct Fed {
+    pub state: State,
+    pub wrote: usize,
+}
+
+// What a text line makes the program say.
+enum Speech {
+    Quiet,
+    Says(Said),
+}
+
+// What a text line comes to.
+struct Turned {
+    state: State,
+    speech: Speech,
+}
+
+pub fn opened() -> State
+    ensures { λ r. ⌜ ((a b : List ℤ) (line : List ℕ) → carryOf r a b line ≡ begun) ⌝ }
+    ensures { λ r. ⌜ Bounds r ⌝ }
+{
+    let none = Held {
+        count: 0,
+        over: false,
+    };
+    State {
+        target: Line::NoLine,
+        a: none,
+        b: none,
+        read: 0,
+        printed: 0,
+        pending: 0,
+    }
+}
+
+// A chunk of the input.
+pub fn feed(
+    state: State,
+    a: &mut [i32],
+    b: &mut [i32],
+    table_a: &mut [i32],
+    table_b: &mut [i32],
+    line: &mut [u8],
+    chunk: &[u8],
+    out: &mut [u8],
+) -> Fed
+    requires { ⌜ Lent (now a) (now b) (now «table_a») (now «table_b») × (length (now line) ≡ keptBytes) × Bounds state ⌝ }
+    requires { ⌜ widest * length (now chunk) ≤ length (now out) ⌝ }
+    requires { ⌜ state .read + length (now chunk) < 2 ^ 64 ⌝ }
+    ensures { λ r. ⌜ Feeds (carryOf state (now (a .entry)) (now (b .entry)) (now (line .entry))) (now (chunk .entry)) (now (out .entry)) 0 r (now (a .exit)) (now (b .exit)) (now (line .exit)) (now (out .exit)) ⌝ }
+{
+    let mut fed = Fed { state, wrote: 0 };
+    let mut i: usize = 0;
+    while i < chunk.len() {
+        fed = feed_byte(fed, a, b, table_a, table_b, line, chunk[i], out);
+        i += 1;
+    }
+    fed
+}
+
+// The end of the input: a last text line may lack its line feed.
+pub fn finish(
+    state: State,
+    a: &mut [i32],
+    b: &mut [i32],
+    table_a: &mut [i32],
+    table_b: &mut [i32],
+    line: &[u8],
+    out: &mut [u8],
+) -> usize
+    requires { ⌜ Lent (now a) (now b) (now «table_a») (now «table_b») × (length (now line) ≡ keptBytes) × Bounds state ⌝ }
+    requires { ⌜ widest ≤ length (now out) ⌝ }
+    requires { ⌜ state .read + 1 < 2 ^ 64 ⌝ }
+    ensures { λ r. ⌜ Put (now (out .entry)) 0 (printLast (carryOf state (now (a .entry)) (now (b .entry)) (now (line .entry)))) (now (out .exit)) r ⌝ }
+{
+    let pending = state.pending;
+    if pending == 0 {
+        return 0;
+    }
+    let turned = turn_line(state, a, b, table_a, table_b, &line[..pending]);
+    print_turn(turned, out, 0)
+}
