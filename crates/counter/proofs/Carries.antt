@@ -1,7 +1,7 @@
 -- Byte after byte: nothing written, a byte kept, a text line ended, and bytes behind bytes.
 use mathlib.Core.Path.{_≡_, refl, sym, _∙_, ap, subst}
 use mathlib.Core.Bool.{Bool, true, false, cond}
-use mathlib.Core.List.{List, [], _∷_, _++_, append-nil, append-assoc}
+use mathlib.Core.List.{List, [], _∷_, _++_, append-nil}
 use mathlib.Core.Option.{Option, none, some}
 use Prim.Native.Nat.{ℕ, _+_, _*_, _^_, _≤_, _<_}
 use native.Mathlib.Nat.{add-zero}
@@ -21,6 +21,7 @@ use Rattle.print.proofs.Width.{printed-fits}
 use Rattle.print.proofs.Writing.{put-same, put-behind}
 use Rattle.desk.specs.Desk.{room, Desk, Turn, turn, saidBytes, bytesOf}
 use Rattle.desk.specs.Chunks.{Carry, keep, carryByte, printByte, carryChunk, printChunk, lastLine, printLast}
+use Rattle.desk.proofs.Chunks.{carry-append, print-append}
 use Rattle.counter.specs.declared.State.{State}
 use Rattle.counter.specs.declared.Turned.{Turned}
 use Rattle.counter.specs.declared.Fed.{Fed}
@@ -124,18 +125,6 @@ module _ {s : State} (a b : List ℤ) (line : List ℕ) (bounds : Bounds s) {byt
       }
 
 -- ---------------- bytes behind bytes
-carry-behind : (c : Carry) (xs ys : List ℕ) → carryChunk c (xs ++ ys) ≡ carryChunk (carryChunk c xs) ys
-unfolding carryChunk
-carry-behind c [] ys = refl
-carry-behind c (x ∷ xs) ys = carry-behind (carryByte c x) xs ys
-
-print-behind : (c : Carry) (xs ys : List ℕ) → printChunk c (xs ++ ys) ≡ printChunk c xs ++ printChunk (carryChunk c xs) ys
-unfolding carryChunk printChunk
-print-behind c [] ys = refl
-print-behind c (x ∷ xs) ys =
-    ap (λ (rest : List ℕ). printByte c x ++ rest) (print-behind (carryByte c x) xs ys)
-    ∙ sym (append-assoc (printByte c x) (printChunk (carryByte c x) xs) (printChunk (carryChunk (carryByte c x) xs) ys))
-
 -- What bytes come to, and then more bytes, is what they come to together.
 feeds-behind : {c : Carry} {xs ys before : List ℕ} {at : ℕ} {r r′ : Fed} {a b a′ b′ : List ℤ} {line line′ after after′ : List ℕ} → at ≤ length before →
     Feeds c xs before at r a b line after → Feeds (carryOf (r .state) a b line) ys after (r .wrote) r′ a′ b′ line′ after′ →
@@ -143,8 +132,8 @@ feeds-behind : {c : Carry} {xs ys before : List ℕ} {at : ℕ} {r r′ : Fed} {
 feeds-behind {c} {xs} {ys} {before} {at} inside f g =
     let step = f .carried in
     record {
-      carried = g .carried ∙ ap (λ (d : Carry). carryChunk d ys) step ∙ sym (carry-behind c xs ys);
-      printed = put-same (ap (λ (d : Carry). printChunk c xs ++ printChunk d ys) step ∙ sym (print-behind c xs ys))
+      carried = g .carried ∙ ap (λ (d : Carry). carryChunk d ys) step ∙ sym (carry-append c xs ys);
+      printed = put-same (ap (λ (d : Carry). printChunk c xs ++ printChunk d ys) step ∙ sym (print-append c xs ys))
           (put-behind before at inside (printChunk c xs) (f .printed) (g .printed));
       bounds = g .bounds;
       read = let l = f .read in let m = g .read in let both = length-append xs ys in omega arith;

@@ -25,10 +25,10 @@ abbrev Same : State → State → Type 0
 Same u s = (u .read ≡ s .read) × (u .printed ≡ s .printed) × (u .pending ≡ s .pending)
 
 -- what is held of the two lines keeps to the room
-abbrev Held≤ : State → Type 0
-Held≤ u = (u .a .count ≤ room) × (u .b .count ≤ room)
+abbrev InRoom : State → Type 0
+InRoom u = (u .a .count ≤ room) × (u .b .count ≤ room)
 
-module _ {s u : State} (ready : Ready s) (same : Same u s) (held : Held≤ u) {r : Turned} {t : Turn} (a b : List ℤ) where
+module _ {s u : State} (ready : Ready s) (same : Same u s) (held : InRoom u) {r : Turned} {t : Turn} (a b : List ℤ) where
   -- A quiet turn leaves the desk of its state.
   pub quiet-turns : r ≡ quietly u → quiet (deskOf u a b) ≡ t → Turns t s r a b
   quiet-turns e d =
@@ -93,7 +93,7 @@ module _ (d : Desk) (l : Line) (x y : ℤ) where
       let e = le-ltb (pointsOf (storeOf d l .points)) room h in
       ap (λ (k : Bool). saying (put k) (refusedAt 13 l (d .textLines))) e ∙ sym (ap after e)
 
-  module _ {s u : State} (ready : Ready s) (same : Same u s) (held : Held≤ u) {a b : List ℤ} (added : deskOf u a b ≡ pointed) {t : Turn} (told : addPoint d l x y ≡ t)
+  module _ {s u : State} (ready : Ready s) (same : Same u s) (held : InRoom u) {a b : List ℤ} (added : deskOf u a b ≡ pointed) {t : Turn} (told : addPoint d l x y ≡ t)
       {r : Turned} where
     -- A point for which there is room is stored, and nothing is said.
     pub stored-turns : pointsOf (storeOf d l .points) < room → r ≡ quietly u → Turns t s r a b

@@ -144,12 +144,12 @@ chunk-then-end (b ∷ bs) c text h = go (eqb b lineFeed) refl (chunk-then-end bs
 
 -- ---------------- chunk after chunk
 
-carry-append : (c : Carry) (xs ys : List ℕ) → carryChunk c (xs ++ ys) ≡ carryChunk (carryChunk c xs) ys
+pub carry-append : (c : Carry) (xs ys : List ℕ) → carryChunk c (xs ++ ys) ≡ carryChunk (carryChunk c xs) ys
 unfolding carryChunk
 carry-append c [] ys = refl
 carry-append c (x ∷ xs) ys = carry-append (carryByte c x) xs ys
 
-print-append : (c : Carry) (xs ys : List ℕ) → printChunk c (xs ++ ys) ≡ printChunk c xs ++ printChunk (carryChunk c xs) ys
+pub print-append : (c : Carry) (xs ys : List ℕ) → printChunk c (xs ++ ys) ≡ printChunk c xs ++ printChunk (carryChunk c xs) ys
 unfolding printChunk carryChunk
 print-append c [] ys = refl
 print-append c (x ∷ xs) ys =

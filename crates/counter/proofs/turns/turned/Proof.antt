@@ -1,10 +1,11 @@
 -- `turned` goes by the record, as `turnOf` does.
 use mathlib.Core.Path.{_≡_, refl, sym, _∙_, ap}
 use mir.Syntax.{w32, w64}
-use mir.Val.{SFits}
+use mir.Val.{SFits, toZ, ofZ}
 use mir.Facts.{toZ-ofZ}
 use Rattle.whole.specs.Machine.{result}
-use Rattle.words.specs.declared.Record.the-variants.{Near, In, Agree}
+use Rattle.words.specs.declared.Record.{Record}
+use Rattle.words.specs.declared.Record.the-variants.{Near, In, Meet, Agree, NotUnderstood}
 use Rattle.print.specs.declared.Said.{Said}
 use Rattle.print.specs.Said.{saidReply}
 use Rattle.desk.specs.Desk.{Desk, saying, takePoint, turnOf}
@@ -45,9 +46,11 @@ agree-distance : (c : tie.After-known-told6) → SFits w32 (c .before .record6 .
 agree-distance c = search needs
 
 -- ---------------- what is said of a record
-answered : (s : tie.Start) {r : Turned} {said : Said} → r ≡ sayingly (s .args .state) said → saying (desk s) (saidReply said) ≡ turnOf (desk s) (s .args .«record»)
-    → Turns (turnOf (desk s) (s .args .«record»)) (s .args .state) r (s .args .a .now) (s .args .b .now)
-answered s = saying-turns (s .pre .1) (refl, refl, refl) (s .pre .1 .bounds .count-a, s .pre .1 .bounds .count-b) (s .args .a .now) (s .args .b .now)
+answered : (s : tie.Start) (q : Record) {r : Turned} {said : Said} → q ≡ s .args .«record» → r ≡ sayingly (s .args .state) said →
+    saying (desk s) (saidReply said) ≡ turnOf (desk s) q → Turns (turnOf (desk s) (s .args .«record»)) (s .args .state) r (s .args .a .now) (s .args .b .now)
+answered s q f e t =
+    turns-same (ap (turnOf (desk s)) f)
+    (saying-turns (s .pre .1) (refl, refl, refl) (s .pre .1 .bounds .count-a, s .pre .1 .bounds .count-b) (s .args .a .now) (s .args .b .now) e t)
 
 enum-known-record : tie.Need-enum-known-record
 enum-known-record c = search needs
@@ -157,15 +160,15 @@ returns-3 c =
     let wide = done .before .before .before .wide in
     let point = done .before .before .before .before .point in
     let known = done .before .before .before .before .before in
-    let told = known .before in
-    let s = told .before .before .before .before in
-    answered s (c .saying .ensures)
-    ((λ i. saying (desk s) (done .near-said .ensures .0 i))
-    ∙ (λ i. turnOf (desk s)
-    (Near ((point .ensures .0 ∙ toZ-ofZ (near-x known)) i) ((point .ensures .1 ∙ toZ-ofZ (near-y known)) i)
+    let told = known .before .record3 .given in
+    let s = known .before .before .before .before .before in
+    answered s (Near (point .result .x) (point .result .y) (toZ w64 (ofZ w64 (wide .result))) (told .0 .1 .1 .1 .0))
+    ((λ i. Near ((point .ensures .0 ∙ toZ-ofZ (near-x known)) i) ((point .ensures .1 ∙ toZ-ofZ (near-y known)) i)
     (result w64 (wide .ok) (wide .ensures ∙ toZ-ofZ (near-distance known)) i)
-    (told .record3 .given .0 .1 .1 .1 .0)))
-    ∙ sym (ap (turnOf (desk s)) (told .record3 .given .1)))
+    (told .0 .1 .1 .1 .0))
+    ∙ sym (told .1))
+    (c .saying .ensures)
+    (λ i. saying (desk s) (done .near-said .ensures .0 i))
 
 same-length-5 : tie.Need-same-length-5
 same-length-5 c = search needs
@@ -178,13 +181,12 @@ returns-4 c =
     let done = c .before .before in
     let point = done .before .before .before .point2 in
     let known = done .before .before .before .before in
-    let told = known .before in
-    let s = told .before .before .before .before in
-    answered s (c .saying2 .ensures)
-    ((λ i. saying (desk s) (done .inside-said .ensures .0 i))
-    ∙ (λ i. turnOf (desk s)
-    (In ((point .ensures .0 ∙ toZ-ofZ (in-x known)) i) ((point .ensures .1 ∙ toZ-ofZ (in-y known)) i) (told .record4 .given .0 .1 .1 .0)))
-    ∙ sym (ap (turnOf (desk s)) (told .record4 .given .1)))
+    let told = known .before .record4 .given in
+    let s = known .before .before .before .before .before in
+    answered s (In (point .result .x) (point .result .y) (told .0 .1 .1 .0))
+    ((λ i. In ((point .ensures .0 ∙ toZ-ofZ (in-x known)) i) ((point .ensures .1 ∙ toZ-ofZ (in-y known)) i) (told .0 .1 .1 .0)) ∙ sym (told .1))
+    (c .saying2 .ensures)
+    (λ i. saying (desk s) (done .inside-said .ensures .0 i))
 
 same-length-7 : tie.Need-same-length-7
 same-length-7 c = search needs
@@ -203,7 +205,7 @@ returns-5 c =
     let done = c .before .before .before in
     let told = done .before .before .before .before .before .before in
     let s = told .before .before .before .before in
-    answered s (c .saying3 .ensures) ((λ i. saying (desk s) (done .meet-said .ensures .0 i)) ∙ sym (ap (turnOf (desk s)) (told .record5 .given .1)))
+    answered s (Meet (told .record5 .given .0 .0)) (sym (told .record5 .given .1)) (c .saying3 .ensures) (λ i. saying (desk s) (done .meet-said .ensures .0 i))
 
 same-length-11 : tie.Need-same-length-11
 same-length-11 c = search needs
@@ -222,19 +224,18 @@ returns-6 c =
     let done = c .before .before .before in
     let wide = done .before .before .before .before .before .wide2 in
     let known = done .before .before .before .before .before .before in
-    let told = known .before in
-    let s = told .before .before .before .before in
-    answered s (c .saying4 .ensures)
-    ((λ i. saying (desk s) (done .agree-said .ensures .0 i))
-    ∙ (λ i. turnOf (desk s)
-    (Agree (result w64 (wide .ok) (wide .ensures ∙ toZ-ofZ (agree-distance known)) i) (told .record6 .given .0 .1 .0)))
-    ∙ sym (ap (turnOf (desk s)) (told .record6 .given .1)))
+    let told = known .before .record6 .given in
+    let s = known .before .before .before .before .before in
+    answered s (Agree (toZ w64 (ofZ w64 (wide .result))) (told .0 .1 .0))
+    ((λ i. Agree (result w64 (wide .ok) (wide .ensures ∙ toZ-ofZ (agree-distance known)) i) (told .0 .1 .0)) ∙ sym (told .1))
+    (c .saying4 .ensures)
+    (λ i. saying (desk s) (done .agree-said .ensures .0 i))
 
 returns-7 : tie.Need-returns-7
 returns-7 c =
     let told = c .before .before in
     let s = told .before .before .before .before in
-    answered s (c .saying5 .ensures) (ap (saying (desk s)) (c .before .refused .ensures) ∙ sym (ap (turnOf (desk s)) (told .enum-told .given .1)))
+    answered s NotUnderstood (sym (told .enum-told .given .1)) (c .saying5 .ensures) (ap (saying (desk s)) (c .before .refused .ensures))
 
 pub turned-spec : {M : Type 1} → statement M
 turned-spec =
