@@ -1,9 +1,9 @@
 //! Every answer is held against the others: ours against the hand-written tree in all five numbers, and against the plain
 //! scan in what it says. A difference ends the run with status 1.
 
-use kneukelboom::lent;
-
-use crate::hand::{self, NO, UNDECIDED, YES};
+use crate::hand;
+use crate::lent;
+use crate::lent::word::{NO, REFUSED, UNDECIDED, YES};
 use crate::plain;
 use crate::shapes::{Pair, Random, Shape};
 use crate::Reply;
@@ -218,10 +218,7 @@ fn ask(a: &Line, b: &Line, (x, y): (i64, i64), d: i64, allowance: u32) -> u64 {
         hand::agree::<true>(p, t, q, u, d, allowance),
     );
     let replies = [near, inside, meet, agree];
-    replies
-        .iter()
-        .filter(|reply| reply.word == hand::REFUSED)
-        .count() as u64
+    replies.iter().filter(|reply| reply.word == REFUSED).count() as u64
 }
 
 /// A short line; now and then one that cannot be built, or a ring.

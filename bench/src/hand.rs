@@ -17,20 +17,9 @@
 
 use core::mem::MaybeUninit;
 
+use crate::lent::line::{LINE_A, LINE_B, NO_LINE};
+use crate::lent::word::{BUILT, INSIDE, NO, ON, OUTSIDE, REFUSED, UNDECIDED, YES};
 use crate::Reply;
-
-pub const BUILT: u32 = 0;
-pub const YES: u32 = 1;
-pub const NO: u32 = 2;
-pub const INSIDE: u32 = 3;
-pub const OUTSIDE: u32 = 4;
-pub const ON: u32 = 5;
-pub const UNDECIDED: u32 = 6;
-pub const REFUSED: u32 = 7;
-
-const NO_LINE: u32 = 0;
-const LINE_A: u32 = 1;
-const LINE_B: u32 = 2;
 
 const SHEET: i32 = 16_383;
 const MOST_POINTS: usize = 4_097;

@@ -19,6 +19,7 @@ use std::process::ExitCode;
 use std::time::Instant;
 
 use check::Line;
+use kneukelboom::lent::word::{INSIDE, ON, YES};
 pub use kneukelboom::lent::{self, Reply};
 use race::{Race, Times};
 use report::{Question, Report, Row};
@@ -251,7 +252,7 @@ impl Bench {
         times: Times,
     ) {
         let count = replies.len() as f64;
-        let is_yes = |reply: &&Reply| [hand::YES, hand::INSIDE, hand::ON].contains(&reply.word);
+        let is_yes = |reply: &&Reply| [YES, INSIDE, ON].contains(&reply.word);
         let visits: u64 = replies.iter().map(|reply| u64::from(reply.visits)).sum();
         self.report.add(Row {
             question,

@@ -3,7 +3,7 @@
 //! It decides what is right: every answer of the trees is held against it. It is also what a program does that has no
 //! tree, so it is written well: one pass, 32-bit products where the ranges allow it, out at the first yes.
 
-use crate::hand::{INSIDE, NO, ON, OUTSIDE, YES};
+use crate::lent::word::{INSIDE, NO, ON, OUTSIDE, YES};
 
 type Point = (i32, i32);
 
