@@ -9,7 +9,8 @@ use native.Mathlib.Nat.{mod-eq-of-lt, pow-suc}
 use borrow.Author.Tests.{ltb-true, ltb-false, lt-ltb, le-ltb}
 use lib.Dec.{ltb}
 use lib.ListN.{length, getD, length-append}
-use Rattle.print.specs.Decimal.{digitsOf, decimal, valueFrom, Digits, Writes}
+use Rattle.words.specs.Numerals.{valueFrom}
+use Rattle.print.specs.Decimal.{digitsOf, decimal, Digits, Writes}
 
 -- A digit alone is the number; more digits are those of the tenth, and the last.
 digits-one : (f n : ℕ) → n < 10 → digitsOf f n ≡ (48 + n) ∷ []
@@ -82,6 +83,7 @@ length-tenth n h k =
 
 -- ---------------- the digits of a number read back as the number
 value-behind : (xs : List ℕ) (v b : ℕ) → valueFrom v (xs ++ b ∷ []) ≡ 10 * valueFrom v xs + (b - 48)
+unfolding valueFrom
 value-behind [] v b = refl
 value-behind (x ∷ xs) v b = value-behind xs (10 * v + (x - 48)) b
 
@@ -90,12 +92,14 @@ digits-behind [] d h k = (h, k, tt)
 digits-behind (x ∷ xs) d h k = (d .0, d .1, digits-behind xs (d .2) h k)
 
 front-behind : (xs : List ℕ) (b : ℕ) → 0 < valueFrom 0 xs → (1 < length xs → 49 ≤ getD xs 0 0) → 49 ≤ getD (xs ++ b ∷ []) 0 0
+unfolding valueFrom
 front-behind [] b h k = absurd (omega arith)
 front-behind (d ∷ []) b h k = omega arith
 front-behind (d ∷ e ∷ ds) b h k = k (omega arith)
 
 -- The digits of a number of 64 bits are digits, they write the number, and no zero stands in front.
 pub decimal-value : (n : ℕ) → n < 2 ^ 64 → Writes (decimal n) n
+unfolding valueFrom
 decimal-value n h = by-digits Writes one more 19 n (twenty-hold h)
   where
     one : (n : ℕ) → n < 10 → Writes ((48 + n) ∷ []) n

@@ -5,6 +5,7 @@ use mathlib.Core.List.{List, [], _∷_, _++_}
 use Prim.Native.Nat.{ℕ, zero, suc, _+_, _*_, _-_, _/_, _%_, _≤_, _<_}
 use lib.Dec.{ltb}
 use lib.ListN.{length, getD}
+use Rattle.words.specs.Numerals.{valueFrom}
 
 -- with at most this many digits before the last
 unfoldable pub digitsOf : ℕ → ℕ → List ℕ
@@ -17,11 +18,6 @@ abbrev pub decimal : ℕ → List ℕ
 decimal n = digitsOf 19 n
 
 -- ---- what the digits of a number have to be
--- the number that digits write, after what is written already
-abbrev pub valueFrom : ℕ → List ℕ → ℕ
-valueFrom v [] = v
-valueFrom v (b ∷ bs) = valueFrom (10 * v + (b - 48)) bs
-
 abbrev pub Digits : List ℕ → Type 0
 Digits [] = Unit {0}
 Digits (b ∷ bs) = (48 ≤ b) × (b ≤ 57) × Digits bs
