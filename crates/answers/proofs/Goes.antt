@@ -1,12 +1,16 @@
 -- How a question goes on once it is known whether the tables stand ready.
-use mathlib.Core.Path.{_≡_, sym, ap, _∙_, subst, subst⁻¹}
+use mathlib.Core.Path.{_≡_, sym, ap, _∙_, subst⁻¹}
+use mathlib.Core.Bool.{true, _&&_, and-eq-true-iff}
 use mathlib.Core.List.{List}
 use lib.IntN.{ℤ}
 use Rattle.rules.specs.Reply.{Reply}
 use Rattle.rules.specs.Build.{tableOf}
+use Rattle.desk.specs.Desk.{Store}
 use Rattle.answers.specs.declared.Readied.{Readied}
-use Rattle.answers.specs.declared.Readied.the-variants.{Ready, Told}
-use Rattle.answers.specs.Readied.{readiedReply, Rows, IfReady}
+use Rattle.answers.specs.declared.Readied.the-variants.{Ready}
+use Rattle.answers.specs.Readied.{readiedReply, goesOn, Rows}
+use Rattle.answers.specs.Left.{isReady, tableAfter, secondAfter}
+use Rattle.answers.proofs.Tables.{rows-ready, second-is}
 
 -- the reply, where what readying came to is known
 pub goes : {r known : Readied} {reply : Reply} → r ≡ known → (ps : List ℤ) (go : List ℤ → Reply)
@@ -25,12 +29,17 @@ pub asked-both : {r : Readied} {reply : Reply} (ask : List ℤ → List ℤ → 
 asked-both ask {lineB = lineB} {rowsB = rowsB} p q p′ q′ e h =
     (λ i. ask (p i) ((q ∙ ap tableOf p) i) lineB rowsB) ∙ asked (ask _ _) p′ q′ e h
 
-module _ {ps t : List ℤ} where
-  -- where its table is ready, the rows of a line stand
-  pub stands : {r : Readied} {line : List ℤ} → line ≡ ps → r ≡ Ready → IfReady r ps t → Rows line t
-  stands p e h = subst⁻¹ (λ (line : List ℤ). Rows line t) p (subst (λ (r : Readied). IfReady r ps t) e h)
+-- the rows of a line that stands ready stand in what is left in its table
+pub stands : (s : Store) (t : List ℤ) {line left : List ℤ} → line ≡ s .points → left ≡ tableAfter s t → isReady s t ≡ true → Rows line left
+stands s t {left = left} p l e = subst⁻¹ (λ (line : List ℤ). Rows line left) p (subst⁻¹ (Rows (s .points)) l (rows-ready s t e))
 
-  -- and do so whatever comes of the other line
-  pub stands-still : (r : Readied) → Rows ps t → IfReady r ps t
-  stands-still Ready h = h
-  stands-still (Told said) h = tt
+-- where a question of both lines goes on, the rows of both stand
+module _ (a b : Store) (tableA tableB : List ℤ) {r : Readied} (e : r ≡ Ready) (g : goesOn r ≡ (isReady a tableA && isReady b tableB)) where
+  ready : (isReady a tableA ≡ true) × (isReady b tableB ≡ true)
+  ready = and-eq-true-iff (isReady a tableA) (isReady b tableB) .0 (sym g ∙ ap goesOn e)
+
+  pub stands-first : {line left : List ℤ} → line ≡ a .points → left ≡ tableAfter a tableA → Rows line left
+  stands-first p l = stands a tableA p l (ready .0)
+
+  pub stands-second : {line left : List ℤ} → line ≡ b .points → left ≡ secondAfter a b tableA tableB → Rows line left
+  stands-second p l = stands b tableB p (l ∙ sym (second-is a b tableA tableB (ready .0))) (ready .1)

@@ -1,8 +1,9 @@
--- A table with room refuses what the described table refuses, and so what a build says is what `withTable` goes by.
-use mathlib.Core.Path.{_≡_, sym, ap, _∙_}
-use mathlib.Core.Bool.{Bool, false, cond}
+-- A table with room refuses what the described table refuses, and so what a build says is what `withTable` goes by; and what
+-- readying a line leaves in its table.
+use mathlib.Core.Path.{_≡_, refl, sym, ap, _∙_, subst}
+use mathlib.Core.Bool.{Bool, true, false, cond, false≢true}
 use mathlib.Core.List.{List, [], _∷_, _++_}
-use mathlib.Core.Option.{Option, none}
+use mathlib.Core.Option.{Option, none, some}
 use mathlib.Core.Logic.{⊎-elim}
 use Prim.Native.Nat.{ℕ, _*_, _≤_}
 use native.Mathlib.Omega.{arith}
@@ -25,6 +26,7 @@ use Rattle.desk.specs.declared.Held.{Held}
 use Rattle.desk.specs.Desk.{Store, refusedAt, onBuild, withTable}
 use Rattle.desk.specs.Kept.{storeIn, Stored, tableRoom}
 use Rattle.answers.specs.Readied.{Rows}
+use Rattle.answers.specs.Left.{clear, isReady, tableAfter, secondAfter}
 
 -- ---------------- a refusal does not depend on a table that is long enough
 
@@ -51,7 +53,7 @@ rows-fit h numbers t s e =
     omega (arith, length-take-le (2 * h .count) numbers (omega (arith, s .whole, s .counted)), s .counted)
 
 -- where the build refuses nothing, the rows stand in the table
-pub rows-stand : (ps t : List ℤ) → buildRefusal ps t ≡ none → Rows ps (builtTable ps t)
+rows-stand : (ps t : List ℤ) → buildRefusal ps t ≡ none → Rows ps (builtTable ps t)
 rows-stand ps t e = record {
   enough = accepted ps t e .enough;
   fits = omega (arith, built-length ps t, accepted ps t e .room);
@@ -66,3 +68,31 @@ unfolding withTable
 with-table l s place go t h p q =
     let r = sym (same-refusal (s .points) t h) ∙ q in
     sym (λ i. cond (p i) (refusedAt 13 l place) (onBuild l (r i) (go (tableOf (s .points)))))
+
+-- ---------------- what is left in the tables
+
+module _ (s : Store) (t : List ℤ) {over : Bool} (p : s .over ≡ over) where
+  -- a line stands ready where neither 13 nor its build refuses it
+  pub ready-is : {o : Option Refusal} → buildRefusal (s .points) t ≡ o → cond over false (clear o) ≡ isReady s t
+  unfolding isReady
+  ready-is q = sym (λ i. cond (p i) false (clear (q i)))
+
+  -- its table is as it was under 13, and else as the build leaves it
+  pub table-is : cond over t (builtTable (s .points) t) ≡ tableAfter s t
+  unfolding tableAfter
+  table-is = sym (ap (λ (k : Bool). cond k t (builtTable (s .points) t)) p)
+
+-- where a line stands ready, its rows stand in its table
+pub rows-ready : (s : Store) (t : List ℤ) → isReady s t ≡ true → Rows (s .points) (tableAfter s t)
+unfolding isReady
+rows-ready s t e = go (s .over) (buildRefusal (s .points) t) refl refl e
+  where
+    go : (over : Bool) (o : Option Refusal) → s .over ≡ over → buildRefusal (s .points) t ≡ o → cond over false (clear o) ≡ true → Rows (s .points) (tableAfter s t)
+    go true o p q h = absurd (false≢true h)
+    go false none p q h = subst (Rows (s .points)) (table-is s t p) (rows-stand (s .points) t q)
+    go false (some r) p q h = absurd (false≢true h)
+
+-- B's table is as readying leaves it, where A stands ready, and else as it was
+pub second-is : (a b : Store) (tableA tableB : List ℤ) {k : Bool} → isReady a tableA ≡ k → cond k (tableAfter b tableB) tableB ≡ secondAfter a b tableA tableB
+unfolding secondAfter
+second-is a b tableA tableB e = sym (ap (λ (k : Bool). cond k (tableAfter b tableB) tableB) e)

@@ -1,2 +1,3 @@
 -- What the contracts of `answers` are said with.
 pub mod Readied
+pub mod Left

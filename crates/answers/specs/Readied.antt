@@ -1,5 +1,6 @@
 -- What readying the tables of a question comes to, in the words of the definitions.
 use mathlib.Core.Path.{_≡_}
+use mathlib.Core.Bool.{Bool, true, false}
 use mathlib.Core.List.{List}
 use Prim.Native.Nat.{ℕ, _≤_}
 use lib.IntN.{ℤ}
@@ -19,15 +20,16 @@ abbrev pub readiedReply : Readied → List ℤ → (List ℤ → Reply) → Repl
 readiedReply Ready ps go = go (tableOf ps)
 readiedReply (Told said) ps go = saidReply said
 
+-- whether the question goes on
+abbrev pub goesOn : Readied → Bool
+goesOn Ready = true
+goesOn (Told said) = false
+
 -- the rows of a line stand at the front of its table
 pub record Rows (ps t : List ℤ) : Type 0 where
   pub enough : fewest ≤ pointsOf ps
   pub fits : rowNumbers ps ≤ length t
   pub front : take (rowNumbers ps) t ≡ tableOf ps
-
-abbrev pub IfReady : Readied → List ℤ → List ℤ → Type 0
-IfReady Ready ps t = Rows ps t
-IfReady (Told said) ps t = Unit {0}
 
 -- ---- a question of both lines: A's table, then B's
 abbrev pub withBoth : Store → Store → ℕ → (List ℤ → List ℤ → Reply) → Reply

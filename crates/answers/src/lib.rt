@@ -1,5 +1,6 @@
 // The four questions of the question program, over the stores of its lines. Each question builds A, then B if needed; a line
-// under 13 is refused in place of its build, and a refused A means that B is not built.
+// under 13 is refused in place of its build, and a refused A means that B is not built. The lent tables hold what is built, and
+// nothing else in them changes.
 use desk::Held;
 use print::Said;
 use rules::Built;
@@ -7,6 +8,7 @@ use rules::Line;
 use rules::Point;
 use rules::Refusal;
 ghost use mathlib.Core.Path.{_≡_};
+ghost use mathlib.Core.Bool.{_&&_};
 ghost use mathlib.Core.List.{List};
 ghost use lib.IntN.{ℤ};
 ghost use lib.ListN.{length};
@@ -16,7 +18,8 @@ ghost use Rattle.rules.specs.Questions.{nearReply, inReply, meetReply, agreeRep
 ghost use Rattle.print.specs.Said.{saidReply};
 ghost use Rattle.desk.specs.Desk.{withTable};
 ghost use Rattle.desk.specs.Kept.{storeIn, Stored, tableRoom};
-ghost use Rattle.answers.specs.Readied.{readiedReply, Rows, IfReady, withBoth};
+ghost use Rattle.answers.specs.Readied.{readiedReply, goesOn, Rows, withBoth};
+ghost use Rattle.answers.specs.Left.{isReady, tableAfter, secondAfter};
 
 // The numbers of a row.
 const WIDTH: usize = 11;
@@ -62,8 +65,8 @@ fn refused(number: u32, line: Line, place: usize, visits: u32) -> Said
 fn ready(line: Line, held: Held, points: &[i32], table: &mut [i32], place: usize) -> Readied
     requires { ⌜ Stored held (now points) × (length (now table) ≡ tableRoom) ⌝ }
     ensures { λ r. ⌜ ((go : List ℤ → Reply) → readiedReply r (storeIn held (now (points .entry)) .points) go ≡ withTable line (storeIn held (now (points .entry))) place go) ⌝ }
-    ensures { λ r. ⌜ IfReady r (storeIn held (now (points .entry)) .points) (now (table .exit)) ⌝ }
-    ensures { λ _. ⌜ length (now (table .exit)) ≡ length (now (table .entry)) ⌝ }
+    ensures { λ r. ⌜ goesOn r ≡ isReady (storeIn held (now (points .entry))) (now (table .entry)) ⌝ }
+    ensures { λ _. ⌜ now (table .exit) ≡ tableAfter (storeIn held (now (points .entry))) (now (table .entry)) ⌝ }
 {
     if held.over {
         return Readied::Told(refused(13, line, place, 0));
@@ -87,7 +90,7 @@ pub fn near_said(
 ) -> Said
     requires { ⌜ Stored held (now points) × (length (now table) ≡ tableRoom) ⌝ }
     ensures { λ r. ⌜ saidReply r ≡ withTable Line.LineA (storeIn held (now (points .entry))) place (λ t. nearReply (storeIn held (now (points .entry)) .points) t z distance allowance) ⌝ }
-    ensures { λ _. ⌜ length (now (table .exit)) ≡ length (now (table .entry)) ⌝ }
+    ensures { λ _. ⌜ now (table .exit) ≡ tableAfter (storeIn held (now (points .entry))) (now (table .entry)) ⌝ }
 {
     let readied = ready(Line::LineA, held, points, table, place);
     if let Readied::Told(said) = readied {
@@ -108,7 +111,7 @@ pub fn inside_said(
 ) -> Said
     requires { ⌜ Stored held (now points) × (length (now table) ≡ tableRoom) ⌝ }
     ensures { λ r. ⌜ saidReply r ≡ withTable Line.LineA (storeIn held (now (points .entry))) place (λ t. inReply (storeIn held (now (points .entry)) .points) t z allowance) ⌝ }
-    ensures { λ _. ⌜ length (now (table .exit)) ≡ length (now (table .entry)) ⌝ }
+    ensures { λ _. ⌜ now (table .exit) ≡ tableAfter (storeIn held (now (points .entry))) (now (table .entry)) ⌝ }
 {
     let readied = ready(Line::LineA, held, points, table, place);
     if let Readied::Told(said) = readied {
@@ -131,10 +134,9 @@ fn ready_both(
     requires { ⌜ Stored «held_a» (now «points_a») × (length (now «table_a») ≡ tableRoom) ⌝ }
     requires { ⌜ Stored «held_b» (now «points_b») × (length (now «table_b») ≡ tableRoom) ⌝ }
     ensures { λ r. ⌜ ((go : List ℤ → List ℤ → Reply) → readiedReply r (storeIn «held_b» (now («points_b» .entry)) .points) (go (tableOf (storeIn «held_a» (now («points_a» .entry)) .points))) ≡ withBoth (storeIn «held_a» (now («points_a» .entry))) (storeIn «held_b» (now («points_b» .entry))) place go) ⌝ }
-    ensures { λ r. ⌜ IfReady r (storeIn «held_a» (now («points_a» .entry)) .points) (now («table_a» .exit)) ⌝ }
-    ensures { λ r. ⌜ IfReady r (storeIn «held_b» (now («points_b» .entry)) .points) (now («table_b» .exit)) ⌝ }
-    ensures { λ _. ⌜ length (now («table_a» .exit)) ≡ length (now («table_a» .entry)) ⌝ }
-    ensures { λ _. ⌜ length (now («table_b» .exit)) ≡ length (now («table_b» .entry)) ⌝ }
+    ensures { λ r. ⌜ goesOn r ≡ (isReady (storeIn «held_a» (now («points_a» .entry))) (now («table_a» .entry)) && isReady (storeIn «held_b» (now («points_b» .entry))) (now («table_b» .entry))) ⌝ }
+    ensures { λ _. ⌜ now («table_a» .exit) ≡ tableAfter (storeIn «held_a» (now («points_a» .entry))) (now («table_a» .entry)) ⌝ }
+    ensures { λ _. ⌜ now («table_b» .exit) ≡ secondAfter (storeIn «held_a» (now («points_a» .entry))) (storeIn «held_b» (now («points_b» .entry))) (now («table_a» .entry)) (now («table_b» .entry)) ⌝ }
 {
     let readied = ready(Line::LineA, held_a, points_a, table_a, place);
     let Readied::Ready = readied else {
@@ -157,8 +159,8 @@ pub fn meet_said(
     requires { ⌜ Stored «held_a» (now «points_a») × (length (now «table_a») ≡ tableRoom) ⌝ }
     requires { ⌜ Stored «held_b» (now «points_b») × (length (now «table_b») ≡ tableRoom) ⌝ }
     ensures { λ r. ⌜ saidReply r ≡ withBoth (storeIn «held_a» (now («points_a» .entry))) (storeIn «held_b» (now («points_b» .entry))) place (λ t t′. meetReply (storeIn «held_a» (now («points_a» .entry)) .points) t (storeIn «held_b» (now («points_b» .entry)) .points) t′ allowance) ⌝ }
-    ensures { λ _. ⌜ length (now («table_a» .exit)) ≡ length (now («table_a» .entry)) ⌝ }
-    ensures { λ _. ⌜ length (now («table_b» .exit)) ≡ length (now («table_b» .entry)) ⌝ }
+    ensures { λ _. ⌜ now («table_a» .exit) ≡ tableAfter (storeIn «held_a» (now («points_a» .entry))) (now («table_a» .entry)) ⌝ }
+    ensures { λ _. ⌜ now («table_b» .exit) ≡ secondAfter (storeIn «held_a» (now («points_a» .entry))) (storeIn «held_b» (now («points_b» .entry))) (now («table_a» .entry)) (now («table_b» .entry)) ⌝ }
 {
     let readied = ready_both(held_a, points_a, table_a, held_b, points_b, table_b, place);
     if let Readied::Told(said) = readied {
@@ -184,8 +186,8 @@ pub fn agree_said(
     requires { ⌜ Stored «held_a» (now «points_a») × (length (now «table_a») ≡ tableRoom) ⌝ }
     requires { ⌜ Stored «held_b» (now «points_b») × (length (now «table_b») ≡ tableRoom) ⌝ }
     ensures { λ r. ⌜ saidReply r ≡ withBoth (storeIn «held_a» (now («points_a» .entry))) (storeIn «held_b» (now («points_b» .entry))) place (λ t t′. agreeReply (storeIn «held_a» (now («points_a» .entry)) .points) t (storeIn «held_b» (now («points_b» .entry)) .points) t′ distance allowance) ⌝ }
-    ensures { λ _. ⌜ length (now («table_a» .exit)) ≡ length (now («table_a» .entry)) ⌝ }
-    ensures { λ _. ⌜ length (now («table_b» .exit)) ≡ length (now («table_b» .entry)) ⌝ }
+    ensures { λ _. ⌜ now («table_a» .exit) ≡ tableAfter (storeIn «held_a» (now («points_a» .entry))) (now («table_a» .entry)) ⌝ }
+    ensures { λ _. ⌜ now («table_b» .exit) ≡ secondAfter (storeIn «held_a» (now («points_a» .entry))) (storeIn «held_b» (now («points_b» .entry))) (now («table_a» .entry)) (now («table_b» .entry)) ⌝ }
 {
     let readied = ready_both(held_a, points_a, table_a, held_b, points_b, table_b, place);
     if let Readied::Told(said) = readied {

@@ -9,7 +9,6 @@ use native.Mathlib.Numerals.{add-one}
 use native.Mathlib.Omega.{arith}
 use borrow.Author.Tests.{le-leb, lt-leb, eq-eqb, ne-eqb}
 use lib.Dec.{eqb}
-use lib.IntN.{ℤ}
 use lib.ListN.{length, take, drop, set, getD, length-append, length-take, take-append-drop}
 use lib.Seq.{length-take-le, take-all, take-at, take-suc, take-suc-set}
 use Rattle.rules.specs.Reply.{Reply}
@@ -20,12 +19,13 @@ use Rattle.print.specs.Put.{Put}
 use Rattle.print.proofs.Width.{printed-fits}
 use Rattle.print.proofs.Writing.{put-same, put-behind}
 use Rattle.desk.specs.Desk.{room, Desk, Turn, turn, saidBytes, bytesOf}
-use Rattle.desk.specs.Chunks.{Carry, keep, carryByte, printByte, carryChunk, printChunk, lastLine, printLast}
+use Rattle.desk.specs.Chunks.{Carry, keep, carryByte, printByte, carryChunk, printChunk, lastLine}
 use Rattle.desk.proofs.Chunks.{carry-append, print-append}
 use Rattle.counter.specs.declared.State.{State}
 use Rattle.counter.specs.declared.Turned.{Turned}
 use Rattle.counter.specs.declared.Fed.{Fed}
-use Rattle.counter.specs.Carried.{deskOf, carryOf, keptBytes, Lent, Bounds, Feeds}
+use Rattle.counter.specs.Left.{Numbers, Slices, textLeft, lineLeft, byteLeft, chunkLeft, lastLeft}
+use Rattle.counter.specs.Carried.{deskOf, carryOf, keptBytes, Lent, Bounds, Feeds, Finishes}
 use Rattle.counter.specs.Turns.{heard, counted, Turns, Keeps}
 
 -- Nothing written leaves all as it was.
@@ -42,6 +42,16 @@ module _ {d xs e : List ℕ} {i : ℕ} (p : Put d 0 xs e i) where
   put-within = let whole = ap length put-front in let short = length-take i e in let behind = p .behind in omega arith
 
 -- ---------------- a byte kept
+-- What a byte leaves: it is written behind the pending ones, and past one byte more than a text line may have it is not.
+module _ (line : List ℕ) (b : ℕ) where
+  pub line-behind : {n : ℕ} → n ≤ longest → set line n b ≡ lineLeft n line b
+  unfolding lineLeft
+  line-behind {n} h = rw (le-leb n longest h)
+
+  pub line-past : {n : ℕ} → longest < n → line ≡ lineLeft n line b
+  unfolding lineLeft
+  line-past {n} h = rw (lt-leb n longest h)
+
 module _ (line : List ℕ) (n b : ℕ) (h : n ≤ length line) where
   abbrev kept : Bool → List ℕ
   kept k = cond k (take n line ++ b ∷ []) (take n line)
@@ -76,6 +86,13 @@ module _ (c : Carry) (b : ℕ) where
   unfolding carryChunk carryByte
   carry-one e = ap after e
 
+  left-one : (l : Slices) {k : Bool} → eqb b lineFeed ≡ k →
+      chunkLeft c l (b ∷ [])
+      ≡ cond k (record { numbers = textLeft (c .desk) (l .numbers) (c .pending); line = l .line })
+      (record { numbers = l .numbers; line = lineLeft (length (c .pending)) (l .line) b })
+  unfolding chunkLeft byteLeft
+  left-one l e = rw e
+
   print-one : {k : Bool} → eqb b lineFeed ≡ k → printChunk c (b ∷ []) ≡ cond k (bytesOf ended) []
   unfolding printChunk printByte
   print-one e = append-nil (printByte c b) ∙ ap (λ (k : Bool). cond k (bytesOf ended) []) e
@@ -92,16 +109,18 @@ module _ (c : Carry) (b : ℕ) where
       go true e = subst (λ (bytes : List ℕ). length bytes ≤ widest) (sym (print-one e)) (said-fits (ended .said) (ended .desk .printedLines))
       go false e = subst (λ (bytes : List ℕ). length bytes ≤ widest) (sym (print-one e)) (omega arith)
 
-module _ {s : State} (a b : List ℤ) (line : List ℕ) (bounds : Bounds s) {byte : ℕ} (out : List ℕ) (at : ℕ) where
+module _ {s : State} (l : Slices) (bounds : Bounds s) {byte : ℕ} (out : List ℕ) (at : ℕ) where
   -- A byte that is no line feed is kept, and prints nothing.
-  pub byte-kept : {r : State} {line′ : List ℕ} → (byte ≡ lineFeed → ⊥) → Keeps s line byte r line′ →
-      Feeds (carryOf s a b line) (byte ∷ []) out at (record { state = r; wrote = at }) a b line′ out
-  byte-kept {r} {line′} other k =
+  pub byte-kept : {r : State} {line : List ℕ} → length (l .line) ≡ keptBytes → (byte ≡ lineFeed → ⊥) → Keeps s (l .line) byte r line →
+      Feeds s l (byte ∷ []) out at (record { state = r; wrote = at }) (record { numbers = l .numbers; line = line }) out
+  byte-kept {r} {line} text other k =
+      let c = carryOf s l in
       let e = ne-eqb byte lineFeed other in
       let back = sym (k .state) in
       record {
-        carried = (λ i. record { desk = deskOf (k .state i) a b; pending = k .bytes i }) ∙ sym (carry-one (carryOf s a b line) byte e);
-        printed = put-same (sym (print-one (carryOf s a b line) byte e)) (put-none out at);
+        carried = (λ i. record { desk = deskOf (k .state i) (l .numbers .stores .a) (l .numbers .stores .b); pending = k .bytes i }) ∙ sym (carry-one c byte e);
+        left = (λ i. record { numbers = l .numbers; line = (k .left ∙ ap (λ (n : ℕ). lineLeft n (l .line) byte) (pending-bytes (l .line) text bounds)) i }) ∙ sym (left-one c byte l e);
+        printed = put-same (sym (print-one c byte e)) (put-none out at);
         bounds = record {
           count-a = subst (λ (s : State). s .a .count ≤ room) back (bounds .count-a);
           count-b = subst (λ (s : State). s .b .count ≤ room) back (bounds .count-b);
@@ -112,27 +131,36 @@ module _ {s : State} (a b : List ℤ) (line : List ℕ) (bounds : Bounds s) {byt
       }
 
   -- A line feed ends the text line of the pending bytes, and its turn is printed.
-  pub byte-ends : {t : Turned} {a′ b′ : List ℤ} {out′ : List ℕ} {next : ℕ} → byte ≡ lineFeed →
-      Turns (turn (deskOf s a b) (take (s .pending) line)) (counted s) t a′ b′ → Put out at (saidBytes (heard (t .speech)) (t .state .printed)) out′ next →
-      Feeds (carryOf s a b line) (byte ∷ []) out at (record { state = t .state; wrote = next }) a′ b′ line out′
-  byte-ends feed turns put =
+  pub byte-ends : {t : Turned} {n : Numbers} {out′ : List ℕ} {next : ℕ} → byte ≡ lineFeed → let c = carryOf s l in
+      Turns (turn (c .desk) (c .pending)) (counted s) t (n .stores .a) (n .stores .b) × (n ≡ textLeft (c .desk) (l .numbers) (c .pending)) →
+      Put out at (saidBytes (heard (t .speech)) (t .state .printed)) out′ next →
+      Feeds s l (byte ∷ []) out at (record { state = t .state; wrote = next }) (record { numbers = n; line = l .line }) out′
+  byte-ends feed (turns, left) put =
+      let c = carryOf s l in
       let e = eq-eqb byte lineFeed feed in
       record {
-        carried = (λ i. record { desk = turns .turn i .desk; pending = take (turns .pending i) line }) ∙ sym (carry-one (carryOf s a b line) byte e);
-        printed = put-same (ap bytesOf (turns .turn) ∙ sym (print-one (carryOf s a b line) byte e)) put;
+        carried = (λ i. record { desk = turns .turn i .desk; pending = take (turns .pending i) (l .line) }) ∙ sym (carry-one c byte e);
+        left = (λ i. record { numbers = left i; line = l .line }) ∙ sym (left-one c byte l e);
+        printed = put-same (ap bytesOf (turns .turn) ∙ sym (print-one c byte e)) put;
         bounds = turns .bounds;
         read = omega arith;
       }
 
 -- ---------------- bytes behind bytes
+left-append : (c : Carry) (l : Slices) (xs ys : List ℕ) → chunkLeft c l (xs ++ ys) ≡ chunkLeft (carryChunk c xs) (chunkLeft c l xs) ys
+unfolding chunkLeft carryChunk
+left-append c l [] ys = refl
+left-append c l (x ∷ xs) ys = left-append (carryByte c x) (byteLeft c l x) xs ys
+
 -- What bytes come to, and then more bytes, is what they come to together.
-feeds-behind : {c : Carry} {xs ys before : List ℕ} {at : ℕ} {r r′ : Fed} {a b a′ b′ : List ℤ} {line line′ after after′ : List ℕ} → at ≤ length before →
-    Feeds c xs before at r a b line after → Feeds (carryOf (r .state) a b line) ys after (r .wrote) r′ a′ b′ line′ after′ →
-    Feeds c (xs ++ ys) before at r′ a′ b′ line′ after′
-feeds-behind {c} {xs} {ys} {before} {at} inside f g =
+feeds-behind : {s : State} {l : Slices} {xs ys before : List ℕ} {at : ℕ} {r r′ : Fed} {l′ l″ : Slices} {out out′ : List ℕ} → at ≤ length before →
+    Feeds s l xs before at r l′ out → Feeds (r .state) l′ ys out (r .wrote) r′ l″ out′ → Feeds s l (xs ++ ys) before at r′ l″ out′
+feeds-behind {s} {l} {xs} {ys} {before} {at} inside f g =
+    let c = carryOf s l in
     let step = f .carried in
     record {
       carried = g .carried ∙ ap (λ (d : Carry). carryChunk d ys) step ∙ sym (carry-append c xs ys);
+      left = g .left ∙ (λ i. chunkLeft (step i) (f .left i) ys) ∙ sym (left-append c l xs ys);
       printed = put-same (ap (λ (d : Carry). printChunk c xs ++ printChunk d ys) step ∙ sym (print-append c xs ys))
           (put-behind before at inside (printChunk c xs) (f .printed) (g .printed));
       bounds = g .bounds;
@@ -140,22 +168,25 @@ feeds-behind {c} {xs} {ys} {before} {at} inside f g =
     }
 
 -- ---------------- the loop over a chunk
+-- The numbers have their sizes.
+abbrev LentAt : Numbers → Type 0
+LentAt n = Lent (n .stores .a) (n .stores .b) (n .tables .a) (n .tables .b)
+
 -- The first i bytes are passed: what they come to, and at most one line is printed for each.
-pub record Passed (c : Carry) (chunk : List ℕ) (i : ℕ) (before : List ℕ) (r : Fed) (a b tableA tableB : List ℤ) (line after : List ℕ) : Type 0 where
-  pub feeds : Feeds c (take i chunk) before 0 r a b line after
-  pub lent : Lent a b tableA tableB
-  pub text : length line ≡ keptBytes
-  pub same : length after ≡ length before
+pub record Passed (s : State) (l : Slices) (chunk : List ℕ) (i : ℕ) (before : List ℕ) (r : Fed) (after : Slices) (out : List ℕ) : Type 0 where
+  pub feeds : Feeds s l (take i chunk) before 0 r after out
+  pub lent : LentAt (after .numbers)
+  pub text : length (after .line) ≡ keptBytes
+  pub same : length out ≡ length before
   pub within : i ≤ length chunk
   pub short : r .wrote ≤ widest * i
 
 -- At first none is passed.
-pub passed-none : {s : State} (a b : List ℤ) {tableA tableB : List ℤ} (line chunk out : List ℕ) → Lent a b tableA tableB → length line ≡ keptBytes → Bounds s →
-    Passed (carryOf s a b line) chunk 0 out (record { state = s; wrote = 0 }) a b tableA tableB line out
-unfolding carryChunk printChunk
-passed-none a b line chunk out lent text bounds =
+pub passed-none : {s : State} (l : Slices) (chunk out : List ℕ) → LentAt (l .numbers) → length (l .line) ≡ keptBytes → Bounds s → Passed s l chunk 0 out (record { state = s; wrote = 0 }) l out
+unfolding carryChunk chunkLeft printChunk
+passed-none l chunk out lent text bounds =
     record {
-      feeds = record { carried = refl; printed = put-none out 0; bounds = bounds; read = omega arith };
+      feeds = record { carried = refl; left = refl; printed = put-none out 0; bounds = bounds; read = omega arith };
       lent = lent;
       text = text;
       same = refl;
@@ -163,27 +194,26 @@ passed-none a b line chunk out lent text bounds =
       short = omega arith;
     }
 
-module _ {c : Carry} {chunk : List ℕ} {i : ℕ} {before : List ℕ} {r : Fed} {a b tableA tableB : List ℤ} {line after : List ℕ}
-    (p : Passed c chunk i before r a b tableA tableB line after) where
+module _ {s : State} {l : Slices} {chunk : List ℕ} {i : ℕ} {before : List ℕ} {r : Fed} {after : Slices} {out : List ℕ} (p : Passed s l chunk i before r after out) where
   -- There is room for one line more, and a number for one text line more.
-  pub passed-room : i < length chunk → widest * length chunk ≤ length before → r .wrote + widest ≤ length after
+  pub passed-room : i < length chunk → widest * length chunk ≤ length before → r .wrote + widest ≤ length out
   passed-room h k = let short = p .short in let same = p .same in omega arith
 
-  pub passed-number : i < length chunk → c .desk .textLines + length chunk < 2 ^ 64 → r .state .read + 1 < 2 ^ 64
+  pub passed-number : i < length chunk → s .read + length chunk < 2 ^ 64 → r .state .read + 1 < 2 ^ 64
   passed-number h k = let most = p .feeds .read in let all = length-take-le i chunk (p .within) in omega arith
 
   -- And then one byte more.
-  pub passed-more : {r′ : Fed} {a′ b′ tableA′ tableB′ : List ℤ} {line′ after′ : List ℕ} → i < length chunk →
-      Feeds (carryOf (r .state) a b line) (getD chunk i 0 ∷ []) after (r .wrote) r′ a′ b′ line′ after′ → Lent a′ b′ tableA′ tableB′ → length line′ ≡ keptBytes →
-      length after′ ≡ length after → Passed c chunk (i + 1) before r′ a′ b′ tableA′ tableB′ line′ after′
-  passed-more {r′} {a′} {b′} {tableA′} {tableB′} {line′} {after′} h f lent text same =
+  pub passed-more : {r′ : Fed} {after′ : Slices} {out′ : List ℕ} → i < length chunk →
+      Feeds (r .state) after (getD chunk i 0 ∷ []) out (r .wrote) r′ after′ out′ → LentAt (after′ .numbers) → length (after′ .line) ≡ keptBytes →
+      length out′ ≡ length out → Passed s l chunk (i + 1) before r′ after′ out′
+  passed-more {r′} {after′} {out′} h f lent text same =
       let byte = getD chunk i 0 in
       let more : take i chunk ++ byte ∷ [] ≡ take (i + 1) chunk = sym (ap (λ (n : ℕ). take n chunk) (add-one i) ∙ take-suc chunk i 0 h) in
-      let fits = one-fits (carryOf (r .state) a b line) byte in
+      let fits = one-fits (carryOf (r .state) after) byte in
       let behind = f .printed .behind in
       let short = p .short in
       record {
-        feeds = subst (λ (xs : List ℕ). Feeds c xs before 0 r′ a′ b′ line′ after′) more (feeds-behind (omega arith) (p .feeds) f);
+        feeds = subst (λ (xs : List ℕ). Feeds s l xs before 0 r′ after′ out′) more (feeds-behind (omega arith) (p .feeds) f);
         lent = lent;
         text = text;
         same = same ∙ p .same;
@@ -192,23 +222,36 @@ module _ {c : Carry} {chunk : List ℕ} {i : ℕ} {before : List ℕ} {r : Fed} 
       }
 
   -- At last all are passed.
-  pub passed-all : length chunk ≤ i → Feeds c chunk before 0 r a b line after
-  passed-all h = subst (λ (xs : List ℕ). Feeds c xs before 0 r a b line after) (take-all i chunk h) (p .feeds)
+  pub passed-all : length chunk ≤ i → Feeds s l chunk before 0 r after out
+  passed-all h = subst (λ (xs : List ℕ). Feeds s l xs before 0 r after out) (take-all i chunk h) (p .feeds)
 
 -- ---------------- the last text line
 last-is : (d : Desk) (text : List ℕ) → 0 < length text → lastLine d text ≡ bytesOf (turn d text)
 last-is d [] h = absurd (omega arith)
 last-is d (x ∷ xs) h = refl
 
-module _ (s : State) (a b : List ℤ) (line out : List ℕ) where
-  -- Where nothing is pending, nothing is printed.
-  pub last-none : s .pending ≡ 0 → Put out 0 (printLast (carryOf s a b line)) out 0
-  last-none e = put-same (sym (ap (λ (n : ℕ). lastLine (deskOf s a b) (take n line)) e)) (put-none out 0)
+last-left : (d : Desk) (n : Numbers) (text : List ℕ) → 0 < length text → lastLeft d n text ≡ textLeft d n text
+last-left d n [] h = absurd (omega arith)
+last-left d n (x ∷ xs) h = refl
+
+module _ (s : State) (l : Slices) (out : List ℕ) where
+  -- Where nothing is pending, nothing is written.
+  pub last-none : s .pending ≡ 0 → Finishes s l out 0 (l .numbers) out
+  last-none e =
+      let d = carryOf s l .desk in
+      record {
+        left = sym (ap (λ (n : ℕ). lastLeft d (l .numbers) (take n (l .line))) e);
+        printed = put-same (sym (ap (λ (n : ℕ). lastLine d (take n (l .line))) e)) (put-none out 0);
+      }
 
   -- The pending bytes are a text line.
-  pub last-turn : {t : Turned} {u : State} {a′ b′ : List ℤ} {out′ : List ℕ} {next : ℕ} → length line ≡ keptBytes → Bounds s → (s .pending ≡ 0 → ⊥) →
-      Turns (turn (deskOf s a b) (take (s .pending) line)) u t a′ b′ → Put out 0 (saidBytes (heard (t .speech)) (t .state .printed)) out′ next →
-      Put out 0 (printLast (carryOf s a b line)) out′ next
-  last-turn text bounds any turns put =
-      let all = pending-bytes line text bounds in
-      put-same (ap bytesOf (turns .turn) ∙ sym (last-is (deskOf s a b) (take (s .pending) line) (omega arith))) put
+  pub last-turn : {t : Turned} {u : State} {n : Numbers} {out′ : List ℕ} {next : ℕ} → length (l .line) ≡ keptBytes → Bounds s → (s .pending ≡ 0 → ⊥) → let c = carryOf s l in
+      Turns (turn (c .desk) (c .pending)) u t (n .stores .a) (n .stores .b) × (n ≡ textLeft (c .desk) (l .numbers) (c .pending)) →
+      Put out 0 (saidBytes (heard (t .speech)) (t .state .printed)) out′ next → Finishes s l out next n out′
+  last-turn text bounds any (turns, left) put =
+      let c = carryOf s l in
+      let all = pending-bytes (l .line) text bounds in
+      record {
+        left = left ∙ sym (last-left (c .desk) (l .numbers) (c .pending) (omega arith));
+        printed = put-same (ap bytesOf (turns .turn) ∙ sym (last-is (c .desk) (c .pending) (omega arith))) put;
+      }

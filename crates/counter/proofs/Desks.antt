@@ -17,6 +17,7 @@ use Rattle.print.specs.Said.{saidReply}
 use Rattle.desk.specs.Desk.{Store, room, Desk, storeOf, putStore, Turn, quiet, saying, refusedAt, addPoint, turnOf, turn}
 use Rattle.counter.specs.declared.State.{State}
 use Rattle.counter.specs.declared.Turned.{Turned}
+use Rattle.counter.specs.Left.{Numbers, recordLeft, textLeft}
 use Rattle.counter.specs.Carried.{deskOf, Bounds}
 use Rattle.counter.specs.Turns.{withPoint, counted, started, quietly, sayingly, Ready, Turns}
 
@@ -45,6 +46,12 @@ module _ {s u : State} (ready : Ready s) (same : Same u s) (held : InRoom u) {r 
 pub turns-same : {t t′ : Turn} {s : State} {r : Turned} {a b : List ℤ} → t ≡ t′ → Turns t s r a b → Turns t′ s r a b
 turns-same {t} {t′} {s} {r} {a} {b} e = subst (λ (t : Turn). Turns t s r a b) e
 
+-- A question says its reply, and leaves the desk of its state.
+pub asked-turns : {s : State} (k : Ready s) (a b : List ℤ) (q : Record) {q′ : Record} {r : Turned} {said : Said} → q ≡ q′ → r ≡ sayingly s said →
+    saying (deskOf s a b) (saidReply said) ≡ turnOf (deskOf s a b) q → Turns (turnOf (deskOf s a b) q′) s r a b
+asked-turns {s} k a b q f e d =
+    turns-same (ap (turnOf (deskOf s a b)) f) (saying-turns k (refl, refl, refl) (k .bounds .count-a, k .bounds .count-b) a b e d)
+
 -- ---------------- a text line is counted, and then it is its record
 -- Once the text line is counted, there is an ordinal for a line that is printed.
 pub ready : {s u : State} → u ≡ counted s → Bounds s → Ready u
@@ -52,13 +59,14 @@ ready e k =
     subst Ready (sym e)
     (record { bounds = record { count-a = k .count-a; count-b = k .count-b; kept = omega arith; ordinal = omega arith }; next = omega arith })
 
--- The turn of the record is the turn of the text line.
-pub line-turns : (s : State) {u : State} (text : List ℕ) {q : Record} {r : Turned} (a b : List ℤ) {a′ b′ : List ℤ} → u ≡ counted s → q ≡ recordOf text →
-    Turns (turnOf (deskOf u a b) q) u r a′ b′ → Turns (turn (deskOf s a b) text) (counted s) r a′ b′
-unfolding turn
-line-turns s {u} text {q} {r} a b {a′} {b′} e f t =
-    subst (λ (q : Record). Turns (turnOf (deskOf (counted s) a b) q) (counted s) r a′ b′) f
-    (subst (λ (u : State). Turns (turnOf (deskOf u a b) q) u r a′ b′) e t)
+-- The turn of the record is the turn of the text line, and leaves what the text line leaves.
+pub line-turns : (s : State) {u : State} (text : List ℕ) {q : Record} {r : Turned} (a b : List ℤ) (n : Numbers) {a′ b′ : List ℤ} {n′ : Numbers} →
+    u ≡ counted s → q ≡ recordOf text → Turns (turnOf (deskOf u a b) q) u r a′ b′ × (n′ ≡ recordLeft (deskOf u a b) n q) →
+    Turns (turn (deskOf s a b) text) (counted s) r a′ b′ × (n′ ≡ textLeft (deskOf s a b) n text)
+unfolding turn textLeft
+line-turns s {u} text {q} {r} a b n {a′} {b′} {n′} e f t =
+    subst (λ (q : Record). Turns (turnOf (deskOf (counted s) a b) q) (counted s) r a′ b′ × (n′ ≡ recordLeft (deskOf (counted s) a b) n q)) f
+    (subst (λ (u : State). Turns (turnOf (deskOf u a b) q) u r a′ b′ × (n′ ≡ recordLeft (deskOf u a b) n q)) e t)
 
 -- ---------------- LINE empties its line, and points go there
 pub start-turns : {s : State} (l : Line) {r : Turned} (a b : List ℤ) → Ready s → r ≡ quietly (started s l) → Turns (turnOf (deskOf s a b) (Start l)) s r a b

@@ -1,4 +1,4 @@
--- A line's store: as many points as are counted, and a point behind them.
+-- A line's store: as many points as are counted, a point behind them, and what it leaves in the numbers of the store.
 use mathlib.Core.Path.{_≡_, sym, _∙_, ap}
 use mathlib.Core.Bool.{Bool, true, cond}
 use mathlib.Core.List.{List, [], _∷_, _++_}
@@ -13,6 +13,7 @@ use Rattle.rules.specs.Sheet.{pointsOf}
 use Rattle.desk.specs.declared.Held.{Held}
 use Rattle.desk.specs.Desk.{Store, room}
 use Rattle.desk.specs.Kept.{storeIn, Stored}
+use Rattle.counter.specs.Left.{pointLeft}
 use Rattle.counter.specs.Turns.{withPoint}
 
 -- Two numbers that are set behind the first 2k stand behind them.
@@ -27,6 +28,16 @@ set-behind xs k x y h =
     (λ i. take (next i) (set (set xs n x) (add-one n i) y))
     ∙ ap (take (n + 2)) (sets-eq (x ∷ y ∷ []) xs n (omega arith))
     ∙ take-at front rest (n + 2) head
+
+-- What a point leaves: it is written behind the others, and past the 257th it is not.
+module _ (xs : List ℤ) (x y : ℤ) where
+  pub left-behind : {n : ℕ} → n < room → set (set xs (2 * n) x) (2 * n + 1) y ≡ pointLeft n xs x y
+  unfolding pointLeft
+  left-behind {n} h = rw (lt-ltb n room h)
+
+  pub left-past : {n : ℕ} → room ≤ n → xs ≡ pointLeft n xs x y
+  unfolding pointLeft
+  left-past {n} h = rw (le-ltb n room h)
 
 module _ (h : Held) (xs : List ℤ) (s : Stored h xs) where
   -- The points of a store are those that are counted.

@@ -7,10 +7,11 @@ use lib.ListN.{length, take}
 use Rattle.words.specs.Records.{longest}
 use Rattle.print.specs.Put.{Put}
 use Rattle.desk.specs.Desk.{room, Desk}
-use Rattle.desk.specs.Chunks.{Carry, carryChunk, printChunk}
+use Rattle.desk.specs.Chunks.{Carry, carryChunk, printChunk, printLast}
 use Rattle.desk.specs.Kept.{storeIn, tableRoom}
 use Rattle.counter.specs.declared.State.{State}
 use Rattle.counter.specs.declared.Fed.{Fed}
+use Rattle.counter.specs.Left.{Numbers, Slices, chunkLeft, endLeft}
 
 -- the desk, with the numbers of the two stores
 abbrev pub deskOf : State → List ℤ → List ℤ → Desk
@@ -18,8 +19,8 @@ deskOf s a b =
     record { target = s .target; a = storeIn (s .a) a; b = storeIn (s .b) b; textLines = s .read; printedLines = s .printed }
 
 -- and the bytes that are kept of the text line that has not ended
-abbrev pub carryOf : State → List ℤ → List ℤ → List ℕ → Carry
-carryOf s a b line = record { desk = deskOf s a b; pending = take (s .pending) line }
+abbrev pub carryOf : State → Slices → Carry
+carryOf s l = record { desk = deskOf s (l .numbers .stores .a) (l .numbers .stores .b); pending = take (s .pending) (l .line) }
 
 -- one byte more than a text line may have is kept
 abbrev pub keptBytes : ℕ
@@ -39,9 +40,15 @@ pub record Bounds (s : State) : Type 0 where
   pub kept : s .pending ≤ keptBytes
   pub ordinal : s .printed ≤ s .read
 
--- ---- what the bytes of a chunk come to from a carry: what is carried and printed is the definition's
-pub record Feeds (start : Carry) (chunk before : List ℕ) (at : ℕ) (r : Fed) (a b : List ℤ) (line after : List ℕ) : Type 0 where
-  pub carried : carryOf (r .state) a b line ≡ carryChunk start chunk
-  pub printed : Put before at (printChunk start chunk) after (r .wrote)
+-- ---- what the bytes of a chunk come to: what is carried, left in the slices and printed is the definition's
+pub record Feeds (s : State) (lent : Slices) (chunk before : List ℕ) (at : ℕ) (r : Fed) (after : Slices) (out : List ℕ) : Type 0 where
+  pub carried : carryOf (r .state) after ≡ carryChunk (carryOf s lent) chunk
+  pub left : after ≡ chunkLeft (carryOf s lent) lent chunk
+  pub printed : Put before at (printChunk (carryOf s lent) chunk) out (r .wrote)
   pub bounds : Bounds (r .state)
-  pub read : r .state .read ≤ start .desk .textLines + length chunk
+  pub read : r .state .read ≤ s .read + length chunk
+
+-- ---- and the end of the input
+pub record Finishes (s : State) (lent : Slices) (before : List ℕ) (r : ℕ) (after : Numbers) (out : List ℕ) : Type 0 where
+  pub left : after ≡ endLeft (carryOf s lent) (lent .numbers)
+  pub printed : Put before 0 (printLast (carryOf s lent)) out r

@@ -20,6 +20,7 @@ use Rattle.counter.specs.declared.State.{State}
 use Rattle.counter.specs.declared.Speech.{Speech}
 use Rattle.counter.specs.declared.Speech.the-variants.{Quiet, Says}
 use Rattle.counter.specs.declared.Turned.{Turned}
+use Rattle.counter.specs.Left.{lineLeft}
 use Rattle.counter.specs.Carried.{deskOf, keptBytes, Bounds}
 
 -- ---- the paper's values of what a turn says, and of the turn
@@ -90,5 +91,6 @@ pub record Turns (t : Turn) (s : State) (r : Turned) (a b : List ℤ) : Type 0 w
 -- ---- a byte kept of the text line that has not ended
 pub record Keeps (s : State) (line : List ℕ) (b : ℕ) (r : State) (after : List ℕ) : Type 0 where
   pub state : r ≡ withPending s (r .pending)
+  pub left : after ≡ lineLeft (s .pending) line b
   pub bytes : take (r .pending) after ≡ keep (take (s .pending) line) b
   pub kept : r .pending ≤ keptBytes

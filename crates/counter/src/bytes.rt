@@ -12,7 +12,8 @@ ghost use lib.ListN.{length};
 ghost use Rattle.print.specs.Printed.{widest};
 ghost use Rattle.print.specs.Put.{Put};
 ghost use Rattle.desk.specs.Desk.{saidBytes};
-ghost use Rattle.counter.specs.Carried.{carryOf, keptBytes, Lent, Bounds, Feeds};
+ghost use Rattle.counter.specs.Left.{slices};
+ghost use Rattle.counter.specs.Carried.{keptBytes, Lent, Bounds, Feeds};
 ghost use Rattle.counter.specs.Turns.{heard, Keeps};
 
 // One byte more than a text line may have is kept.
@@ -59,7 +60,7 @@ pub fn feed_byte(
     requires { ⌜ Lent (now a) (now b) (now «table_a») (now «table_b») × (length (now line) ≡ keptBytes) × Bounds (fed .state) ⌝ }
     requires { ⌜ fed .wrote + widest ≤ length (now out) ⌝ }
     requires { ⌜ fed .state .read + 1 < 2 ^ 64 ⌝ }
-    ensures { λ r. ⌜ Feeds (carryOf (fed .state) (now (a .entry)) (now (b .entry)) (now (line .entry))) (byte ∷ []) (now (out .entry)) (fed .wrote) r (now (a .exit)) (now (b .exit)) (now (line .exit)) (now (out .exit)) ⌝ }
+    ensures { λ r. ⌜ Feeds (fed .state) (slices (now (a .entry)) (now (b .entry)) (now («table_a» .entry)) (now («table_b» .entry)) (now (line .entry))) (byte ∷ []) (now (out .entry)) (fed .wrote) r (slices (now (a .exit)) (now (b .exit)) (now («table_a» .exit)) (now («table_b» .exit)) (now (line .exit))) (now (out .exit)) ⌝ }
 {
     let state = fed.state;
     let wrote = fed.wrote;

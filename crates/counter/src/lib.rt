@@ -1,7 +1,10 @@
 // The question program on slices: what a text line comes to, and what a chunk of bytes prints. The program above it only reads
-// and writes. `feed` and `finish` say what is printed by the definitions of `desk`, however the input is cut into chunks.
+// and writes. `feed` and `finish` say what is printed by the definitions of `desk`, however the input is cut into chunks, and
+// what every lent slice holds afterwards.
 mod bytes;
 mod points;
+mod questions;
+mod states;
 mod turns;
 
 use bytes::feed_byte;
@@ -11,14 +14,12 @@ use print::Said;
 use rules::Line;
 use turns::turn_line;
 ghost use mathlib.Core.Path.{_≡_};
-ghost use mathlib.Core.List.{List};
-ghost use Prim.Native.Nat.{ℕ, _+_, _*_, _≤_, _<_, _^_};
-ghost use lib.IntN.{ℤ};
+ghost use Prim.Native.Nat.{_+_, _*_, _≤_, _<_, _^_};
 ghost use lib.ListN.{length};
 ghost use Rattle.print.specs.Printed.{widest};
-ghost use Rattle.print.specs.Put.{Put};
-ghost use Rattle.desk.specs.Chunks.{begun, printLast};
-ghost use Rattle.counter.specs.Carried.{carryOf, keptBytes, Lent, Bounds, Feeds};
+ghost use Rattle.desk.specs.Chunks.{begun};
+ghost use Rattle.counter.specs.Left.{Slices, numbers, slices};
+ghost use Rattle.counter.specs.Carried.{carryOf, keptBytes, Lent, Bounds, Feeds, Finishes};
 
 // What is carried beside the lent slices: where points go, how the two lines are held, the text lines read, the lines
 // printed, and the bytes kept of the text line that has not ended.
@@ -50,7 +51,7 @@ struct Turned {
 }
 
 pub fn opened() -> State
-    ensures { λ r. ⌜ ((a b : List ℤ) (line : List ℕ) → carryOf r a b line ≡ begun) ⌝ }
+    ensures { λ r. ⌜ ((l : Slices) → carryOf r l ≡ begun) ⌝ }
     ensures { λ r. ⌜ Bounds r ⌝ }
 {
     let none = Held {
@@ -81,7 +82,7 @@ pub fn feed(
     requires { ⌜ Lent (now a) (now b) (now «table_a») (now «table_b») × (length (now line) ≡ keptBytes) × Bounds state ⌝ }
     requires { ⌜ widest * length (now chunk) ≤ length (now out) ⌝ }
     requires { ⌜ state .read + length (now chunk) < 2 ^ 64 ⌝ }
-    ensures { λ r. ⌜ Feeds (carryOf state (now (a .entry)) (now (b .entry)) (now (line .entry))) (now (chunk .entry)) (now (out .entry)) 0 r (now (a .exit)) (now (b .exit)) (now (line .exit)) (now (out .exit)) ⌝ }
+    ensures { λ r. ⌜ Feeds state (slices (now (a .entry)) (now (b .entry)) (now («table_a» .entry)) (now («table_b» .entry)) (now (line .entry))) (now (chunk .entry)) (now (out .entry)) 0 r (slices (now (a .exit)) (now (b .exit)) (now («table_a» .exit)) (now («table_b» .exit)) (now (line .exit))) (now (out .exit)) ⌝ }
 {
     let mut fed = Fed { state, wrote: 0 };
     let mut i: usize = 0;
@@ -105,7 +106,7 @@ pub fn finish(
     requires { ⌜ Lent (now a) (now b) (now «table_a») (now «table_b») × (length (now line) ≡ keptBytes) × Bounds state ⌝ }
     requires { ⌜ widest ≤ length (now out) ⌝ }
     requires { ⌜ state .read + 1 < 2 ^ 64 ⌝ }
-    ensures { λ r. ⌜ Put (now (out .entry)) 0 (printLast (carryOf state (now (a .entry)) (now (b .entry)) (now (line .entry)))) (now (out .exit)) r ⌝ }
+    ensures { λ r. ⌜ Finishes state (slices (now (a .entry)) (now (b .entry)) (now («table_a» .entry)) (now («table_b» .entry)) (now (line .entry))) (now (out .entry)) r (numbers (now (a .exit)) (now (b .exit)) (now («table_a» .exit)) (now («table_b» .exit))) (now (out .exit)) ⌝ }
 {
     let pending = state.pending;
     if pending == 0 {

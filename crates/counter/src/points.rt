@@ -4,6 +4,7 @@ ghost use mathlib.Core.Path.{_≡_};
 ghost use Prim.Native.Nat.{_≤_};
 ghost use Rattle.desk.specs.Desk.{room};
 ghost use Rattle.desk.specs.Kept.{storeIn, Stored};
+ghost use Rattle.counter.specs.Left.{pointLeft};
 ghost use Rattle.counter.specs.Turns.{withPoint};
 
 // The points that a line's store has room for.
@@ -14,6 +15,7 @@ pub fn add_point(held: Held, points: &mut [i32], x: i32, y: i32) -> Held
     requires { ⌜ Stored held (now points) ⌝ }
     ensures { λ r. ⌜ storeIn r (now (points .exit)) ≡ withPoint (storeIn held (now (points .entry))) x y ⌝ }
     ensures { λ r. ⌜ r .count ≤ room ⌝ }
+    ensures { λ _. ⌜ now (points .exit) ≡ pointLeft (held .count) (now (points .entry)) x y ⌝ }
 {
     let count = held.count;
     if count < ROOM {

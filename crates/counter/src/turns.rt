@@ -1,20 +1,20 @@
 // What a text line comes to.
-use crate::Speech;
 use crate::State;
 use crate::Turned;
 use crate::points::ROOM;
 use crate::points::add_point;
-use answers::agree_said;
-use answers::inside_said;
-use answers::meet_said;
-use answers::near_said;
-use desk::Held;
+use crate::questions::agree_turn;
+use crate::questions::inside_turn;
+use crate::questions::meet_turn;
+use crate::questions::near_turn;
+use crate::states::counted;
+use crate::states::quiet;
+use crate::states::saying;
+use crate::states::started;
 use print::Said;
 use print::of_refusal;
 use rules::Line;
-use rules::Point;
 use rules::Refusal;
-use whole::wide;
 use words::Record;
 use words::record_of;
 ghost use mathlib.Core.Path.{_≡_};
@@ -22,78 +22,9 @@ ghost use Prim.Native.Nat.{_+_, _*_, _<_, _^_};
 ghost use lib.ListN.{length};
 ghost use Rattle.print.specs.Said.{saidReply};
 ghost use Rattle.desk.specs.Desk.{room, refusedAt, takePoint, turnOf, turn};
+ghost use Rattle.counter.specs.Left.{both, numbers, storesLeft, recordLeft, textLeft};
 ghost use Rattle.counter.specs.Carried.{deskOf, Lent, Bounds};
-ghost use Rattle.counter.specs.Turns.{Ready, counted, aimed, started, quietly, sayingly, Turns};
-
-// The pending bytes are a text line that is read.
-fn counted(state: State) -> State
-    requires { ⌜ state .read + 1 < 2 ^ 64 ⌝ }
-    ensures { λ r. ⌜ r ≡ counted state ⌝ }
-{
-    let mut s = state;
-    s.read = state.read + 1;
-    s.pending = 0;
-    s
-}
-
-// The following points go to a line.
-fn aimed(state: State, line: Line) -> State
-    ensures { λ r. ⌜ r ≡ aimed state line ⌝ }
-{
-    let a = state.a;
-    let b = state.b;
-    State {
-        target: line,
-        a,
-        b,
-        read: state.read,
-        printed: state.printed,
-        pending: state.pending,
-    }
-}
-
-// LINE empties its line and directs the following points to it.
-fn started(state: State, line: Line) -> State
-    ensures { λ r. ⌜ r ≡ started state line ⌝ }
-{
-    let none = Held {
-        count: 0,
-        over: false,
-    };
-    let mut s = state;
-    match line {
-        Line::NoLine => aimed(state, Line::NoLine),
-        Line::LineA => {
-            s.a = none;
-            aimed(s, Line::LineA)
-        }
-        Line::LineB => {
-            s.b = none;
-            aimed(s, Line::LineB)
-        }
-    }
-}
-
-fn quiet(state: State) -> Turned
-    ensures { λ r. ⌜ r ≡ quietly state ⌝ }
-{
-    Turned {
-        state,
-        speech: Speech::Quiet,
-    }
-}
-
-fn saying(state: State, said: Said) -> Turned
-    requires { ⌜ state .printed < state .read ⌝ }
-    ensures { λ r. ⌜ r ≡ sayingly state said ⌝ }
-{
-    let mut s = state;
-    s.printed = state.printed + 1;
-    Turned {
-        state: s,
-        speech: Speech::Says(said),
-    }
-}
+ghost use Rattle.counter.specs.Turns.{Ready, counted, Turns};
 
 // A refusal of the program: its place is the text line.
 fn refused(number: u32, line: Line, place: usize) -> Said
@@ -111,6 +42,7 @@ fn refused(number: u32, line: Line, place: usize) -> Said
 fn take_point(state: State, a: &mut [i32], b: &mut [i32], x: i32, y: i32) -> Turned
     requires { ⌜ (length (now a) ≡ 2 * room) × (length (now b) ≡ 2 * room) × Ready state ⌝ }
     ensures { λ r. ⌜ Turns (takePoint (deskOf state (now (a .entry)) (now (b .entry))) (state .target) x y) state r (now (a .exit)) (now (b .exit)) ⌝ }
+    ensures { λ _. ⌜ both (now (a .exit)) (now (b .exit)) ≡ storesLeft (deskOf state (now (a .entry)) (now (b .entry))) (state .target) (both (now (a .entry)) (now (b .entry))) x y ⌝ }
 {
     let target = state.target;
     let mut s = state;
@@ -137,16 +69,6 @@ fn take_point(state: State, a: &mut [i32], b: &mut [i32], x: i32, y: i32) -> Tur
     }
 }
 
-// A point that is asked for.
-fn point(x: i32, y: i32) -> Point
-    ensures { λ r. ⌜ (r .x ≡ x) × (r .y ≡ y) ⌝ }
-{
-    Point {
-        x: wide(x),
-        y: wide(y),
-    }
-}
-
 // What a record comes to.
 fn turned(
     state: State,
@@ -158,10 +80,8 @@ fn turned(
 ) -> Turned
     requires { ⌜ Lent (now a) (now b) (now «table_a») (now «table_b») × Ready state ⌝ }
     ensures { λ r. ⌜ Turns (turnOf (deskOf state (now (a .entry)) (now (b .entry))) «record») state r (now (a .exit)) (now (b .exit)) ⌝ }
+    ensures { λ _. ⌜ numbers (now (a .exit)) (now (b .exit)) (now («table_a» .exit)) (now («table_b» .exit)) ≡ recordLeft (deskOf state (now (a .entry)) (now (b .entry))) (numbers (now (a .entry)) (now (b .entry)) (now («table_a» .entry)) (now («table_b» .entry))) «record» ⌝ }
 {
-    let place = state.read;
-    let held_a = state.a;
-    let held_b = state.b;
     match record {
         Record::Start(line) => quiet(started(state, line)),
         Record::Pt(x, y) => take_point(state, a, b, x, y),
@@ -170,30 +90,14 @@ fn turned(
             y,
             distance,
             allowance,
-        } => {
-            let z = point(x, y);
-            let d = wide(distance);
-            saying(state, near_said(held_a, a, table_a, place, z, d, allowance))
-        }
-        Record::In { x, y, allowance } => {
-            let z = point(x, y);
-            saying(state, inside_said(held_a, a, table_a, place, z, allowance))
-        }
-        Record::Meet(allowance) => saying(
-            state,
-            meet_said(held_a, a, table_a, held_b, b, table_b, place, allowance),
-        ),
+        } => near_turn(state, a, table_a, x, y, distance, allowance),
+        Record::In { x, y, allowance } => inside_turn(state, a, table_a, x, y, allowance),
+        Record::Meet(allowance) => meet_turn(state, a, b, table_a, table_b, allowance),
         Record::Agree {
             distance,
             allowance,
-        } => {
-            let d = wide(distance);
-            saying(
-                state,
-                agree_said(held_a, a, table_a, held_b, b, table_b, place, d, allowance),
-            )
-        }
-        Record::NotUnderstood => saying(state, refused(12, Line::NoLine, place)),
+        } => agree_turn(state, a, b, table_a, table_b, distance, allowance),
+        Record::NotUnderstood => saying(state, refused(12, Line::NoLine, state.read)),
     }
 }
 
@@ -209,6 +113,7 @@ pub fn turn_line(
     requires { ⌜ Lent (now a) (now b) (now «table_a») (now «table_b») × Bounds state ⌝ }
     requires { ⌜ state .read + 1 < 2 ^ 64 ⌝ }
     ensures { λ r. ⌜ Turns (turn (deskOf state (now (a .entry)) (now (b .entry))) (now (text .entry))) (counted state) r (now (a .exit)) (now (b .exit)) ⌝ }
+    ensures { λ _. ⌜ numbers (now (a .exit)) (now (b .exit)) (now («table_a» .exit)) (now («table_b» .exit)) ≡ textLeft (deskOf state (now (a .entry)) (now (b .entry))) (numbers (now (a .entry)) (now (b .entry)) (now («table_a» .entry)) (now («table_b» .entry))) (now (text .entry)) ⌝ }
 {
     turned(counted(state), a, b, table_a, table_b, record_of(text))
 }

@@ -7,24 +7,25 @@ use mir.Facts.{toZ-ofZ}
 use Rattle.rules.specs.Reply.{Reply}
 use Rattle.rules.specs.Questions.{agreeReply}
 use Rattle.rules.specs.Build.{tableOf}
+use Rattle.desk.specs.Desk.{Store}
 use Rattle.desk.specs.Kept.{storeIn}
-use Rattle.answers.proofs.Goes.{goes, asked-both, stands}
+use Rattle.answers.proofs.Goes.{goes, asked-both, stands-first, stands-second}
 use borrow.Author.Needs.{needs}
 use Rattle.answers.proofs.agree_said.Statement.{statement}
 use Rattle.answers.proofs.agree_said.Tie as tie
 
-abbrev pointsA : tie.Start → List ℤ
-pointsA s = storeIn (s .args .held-a) (s .args .points-a .now) .points
+abbrev storeA : tie.Start → Store
+storeA s = storeIn (s .args .held-a) (s .args .points-a .now)
 
-abbrev pointsB : tie.Start → List ℤ
-pointsB s = storeIn (s .args .held-b) (s .args .points-b .now) .points
+abbrev storeB : tie.Start → Store
+storeB s = storeIn (s .args .held-b) (s .args .points-b .now)
 
 abbrev ask : tie.Start → List ℤ → List ℤ → List ℤ → List ℤ → Reply
 ask s ps t qs t′ = agreeReply ps t qs t′ (s .args .distance) (s .args .allowance)
 
 -- with the points that are stored
 abbrev question : tie.Start → List ℤ → List ℤ → Reply
-question s t t′ = ask s (pointsA s) t (pointsB s) t′
+question s t t′ = ask s (storeA s .points) t (storeB s .points) t′
 
 ready-both-requires : tie.Need-ready-both-requires
 ready-both-requires c κs = search needs
@@ -42,7 +43,7 @@ returns : tie.Need-returns
 returns c =
     let s = c .before .before .before .before .before .before .before .before in
     let r = c .before .before .before .before .before .ready-both in
-    (goes (c .before .readied .given .1) (pointsB s) (question s (tableOf (pointsA s))) (r .ensures .0 (question s)), r .ensures .1 .1 .1)
+    (goes (c .before .readied .given .1) (storeB s .points) (question s (tableOf (storeA s .points))) (r .ensures .0 (question s)), r .ensures .1 .1)
 
 enum-told : tie.Need-enum-told
 enum-told c = search needs
@@ -56,12 +57,16 @@ stored-requires-2 c κs = search needs
 rows-requires : tie.Need-rows-requires
 rows-requires c κs =
     let t = c .before .before .before in
-    stands (c .before .before .stored .ensures) (t .enum-told .given .1) (t .before .before .before .before .ready-both .ensures .1 .0)
+    let r = t .before .before .before .before .ready-both in
+    let s = t .before .before .before .before .before .before .before in
+    stands-first (storeA s) (storeB s) (s .args .table-a .now) (s .args .table-b .now) (t .enum-told .given .1) (r .ensures .1 .0) (c .before .before .stored .ensures) (r .ensures .1 .1 .0)
 
 rows-requires-2 : tie.Need-rows-requires-2
 rows-requires-2 c κs =
     let t = c .before .before .before .before .before in
-    stands (c .before .before .before .stored2 .ensures) (t .enum-told .given .1) (t .before .before .before .before .ready-both .ensures .1 .1 .0)
+    let r = t .before .before .before .before .ready-both in
+    let s = t .before .before .before .before .before .before .before in
+    stands-second (storeA s) (storeB s) (s .args .table-a .now) (s .args .table-b .now) (t .enum-told .given .1) (r .ensures .1 .0) (c .before .before .before .stored2 .ensures) (r .ensures .1 .1 .1)
 
 agree-requires : tie.Need-agree-requires
 agree-requires c κs = search needs
@@ -88,7 +93,7 @@ returns-2 c =
           ∙ c .before .agree .ensures
           ∙ (λ i. agreeReply (a .result .now) (ta .result .now) (b .result .now) (tb .result .now) (toZ-ofZ {w = w64} (s .fits .distance) i) (s .args .allowance))
           ∙ asked-both (ask s) (a .ensures) (ta .ensures) (b .ensures) (tb .ensures) (t .enum-told .given .1) (r .ensures .0 (question s)),
-      r .ensures .1 .1 .1,
+      r .ensures .1 .1,
     )
 
 pub agree-said-spec : {M : Type 1} → statement M

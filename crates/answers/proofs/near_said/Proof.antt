@@ -1,19 +1,24 @@
 -- `near_said`: a refusal is told; else NEAR is asked of the points and of just their rows.
-use mathlib.Core.Path.{_∙_}
+use mathlib.Core.Path.{sym, ap, _∙_}
 use mathlib.Core.List.{List}
 use lib.IntN.{ℤ}
 use mir.Syntax.{w64}
 use mir.Facts.{toZ-ofZ}
 use Rattle.rules.specs.Reply.{Reply}
 use Rattle.rules.specs.Questions.{nearReply}
+use Rattle.desk.specs.Desk.{Store}
 use Rattle.desk.specs.Kept.{storeIn}
+use Rattle.answers.specs.Readied.{goesOn}
 use Rattle.answers.proofs.Goes.{goes, asked, stands}
 use borrow.Author.Needs.{needs}
 use Rattle.answers.proofs.near_said.Statement.{statement}
 use Rattle.answers.proofs.near_said.Tie as tie
 
+abbrev store : tie.Start → Store
+store s = storeIn (s .args .held) (s .args .points .now)
+
 abbrev points : tie.Start → List ℤ
-points s = storeIn (s .args .held) (s .args .points .now) .points
+points s = store s .points
 
 abbrev ask : tie.Start → List ℤ → List ℤ → Reply
 ask s ps t = nearReply ps t (s .args .z) (s .args .distance) (s .args .allowance)
@@ -42,7 +47,9 @@ stored-requires c κs = search needs
 rows-requires : tie.Need-rows-requires
 rows-requires c κs =
     let t = c .before .before in
-    stands (c .before .stored .ensures) (t .enum-told .given .1) (t .before .before .before .ready .ensures .1 .0)
+    let r = t .before .before .before .ready in
+    let s = t .before .before .before .before .before in
+    stands (store s) (s .args .table .now) (c .before .stored .ensures) (r .ensures .1 .1) (sym (r .ensures .1 .0) ∙ ap goesOn (t .enum-told .given .1))
 
 near-requires : tie.Need-near-requires
 near-requires c κs = search needs

@@ -1,5 +1,5 @@
 -- `ready`: 13 before the build; then what the build says decides, and what it leaves in the table.
-use mathlib.Core.Path.{_≡_, refl, sym, ap, _∙_, subst}
+use mathlib.Core.Path.{_≡_, refl, sym, ap, _∙_}
 use mathlib.Core.List.{List}
 use mathlib.Core.Option.{none}
 use Prim.Native.Nat.{_≤_}
@@ -9,11 +9,9 @@ use Rattle.rules.specs.declared.Built.the-variants.{Whole}
 use Rattle.rules.specs.Reply.{builtRefusal}
 use Rattle.rules.specs.Build.{buildRefusal, builtTable}
 use Rattle.built.specs.Accepted.{rowNumbers}
-use Rattle.built.proofs.Table.{built-length}
 use Rattle.desk.specs.Desk.{Store}
 use Rattle.desk.specs.Kept.{storeIn}
-use Rattle.answers.specs.Readied.{Rows}
-use Rattle.answers.proofs.Tables.{rows-fit, rows-stand, with-table}
+use Rattle.answers.proofs.Tables.{rows-fit, with-table, ready-is, table-is}
 use borrow.Author.Needs.{needs}
 use Rattle.answers.proofs.ready.Statement.{statement}
 use Rattle.answers.proofs.ready.Tie as tie
@@ -34,16 +32,13 @@ refusal c = c .build .ensures .0 ∙ ap (λ (ps : List ℤ). buildRefusal ps (ta
 written : (c : tie.After-build) → c .build .last .1 .0 ≡ builtTable (store (c .before .before .before .before) .points) (table (c .before .before .before .before))
 written c = c .build .ensures .1 ∙ ap (λ (ps : List ℤ). builtTable ps (table (c .before .before .before .before))) (c .before .before .stored .ensures)
 
-length-kept : (c : tie.After-build) → length (c .build .last .1 .0) ≡ length (table (c .before .before .before .before))
-length-kept c = ap length (written c) ∙ built-length (store (c .before .before .before .before) .points) (table (c .before .before .before .before))
-
 refused-requires : tie.Need-refused-requires
 refused-requires c κs = search needs
 
 returns : tie.Need-returns
 returns c =
     let s = c .before .before in
-    (λ go. c .refused .ensures ∙ with-table (s .args .line) (store s) (s .args .place) go (table s) (fit s) (c .before .if1 .taken) refl, (tt, refl))
+    (λ go. c .refused .ensures ∙ with-table (s .args .line) (store s) (s .args .place) go (table s) (fit s) (c .before .if1 .taken) refl, (ready-is (store s) (table s) (c .before .if1 .taken) refl, table-is (store s) (table s) (c .before .if1 .taken)))
 
 stored-requires : tie.Need-stored-requires
 stored-requires c κs = search needs
@@ -63,10 +58,11 @@ same-length c = search needs
 returns-2 : tie.Need-returns-2
 returns-2 c =
     let b = c .before .before .before .before .before in
-    let s = b .before .before .before .before in (
-      λ go. c .refused2 .ensures
-          ∙ with-table (s .args .line) (store s) (s .args .place) go (table s) (fit s) (b .before .before .before .if1 .left) (sym (refusal b) ∙ ap builtRefusal (c .before .before .built .given .1)),
-      (tt, length-kept b),
+    let s = b .before .before .before .before in
+    let whole = b .before .before .before .if1 .left in
+    let e = sym (refusal b) ∙ ap builtRefusal (c .before .before .built .given .1) in (
+      λ go. c .refused2 .ensures ∙ with-table (s .args .line) (store s) (s .args .place) go (table s) (fit s) whole e,
+      (ready-is (store s) (table s) whole e, written b ∙ table-is (store s) (table s) whole),
     )
 
 enum-told : tie.Need-enum-told
@@ -79,10 +75,11 @@ returns-3 : tie.Need-returns-3
 returns-3 c =
     let b = c .before .before .before in
     let s = b .before .before .before .before in
+    let whole = b .before .before .before .if1 .left in
     let w : b .build .result ≡ Whole = cc in
     let e : buildRefusal (store s .points) (table s) ≡ none = sym (refusal b) ∙ ap builtRefusal w in (
-      λ go. with-table (s .args .line) (store s) (s .args .place) go (table s) (fit s) (b .before .before .before .if1 .left) e,
-      (subst (Rows (store s .points)) (sym (written b)) (rows-stand (store s .points) (table s) e), length-kept b),
+      λ go. with-table (s .args .line) (store s) (s .args .place) go (table s) (fit s) whole e,
+      (ready-is (store s) (table s) whole e, written b ∙ table-is (store s) (table s) whole),
     )
 
 pub ready-spec : {M : Type 1} → statement M

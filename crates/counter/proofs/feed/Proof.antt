@@ -4,14 +4,14 @@ use Prim.Native.Nat.{_-_}
 use native.Mathlib.Omega.{arith}
 use lib.ListN.{length}
 use borrow.Author.Needs.{needs}
-use Rattle.counter.specs.Carried.{carryOf}
+use Rattle.counter.specs.Left.{slices}
 use Rattle.counter.proofs.Carries.{Passed, passed-none, passed-room, passed-number, passed-more, passed-all}
 use Rattle.counter.proofs.feed.Statement.{statement}
 use Rattle.counter.proofs.feed.Tie as tie
 
 abbrev Inv-loop : tie.InvT-loop
 Inv-loop a₀ b₀ table-a₀ table-b₀ line₀ chunk out₀ fed₀ i₀ a b table-a table-b line out fed i =
-    Passed (carryOf (fed₀ .state) a₀ b₀ line₀) chunk i out₀ fed a b table-a table-b line out
+    Passed (fed₀ .state) (slices a₀ b₀ table-a₀ table-b₀ line₀) chunk i out₀ fed (slices a b table-a table-b line) out
 
 abbrev μ-loop : tie.MeasureT-loop
 μ-loop a₀ b₀ table-a₀ table-b₀ line₀ chunk out₀ fed₀ i₀ a b table-a table-b line out fed i = length chunk - i
@@ -19,7 +19,10 @@ abbrev μ-loop : tie.MeasureT-loop
 loop-holds : tie.Need-loop-holds Inv-loop μ-loop
 loop-holds c =
     let s = c .before .before .before in
-    passed-none (s .args .a .now) (s .args .b .now) (s .args .line .now) (s .args .chunk .now) (s .args .out .now) (s .pre .0 .0) (s .pre .0 .1) (s .pre .0 .2)
+    passed-none (slices (s .args .a .now) (s .args .b .now) (s .args .table-a .now) (s .args .table-b .now) (s .args .line .now)) (s .args .chunk .now) (s .args .out .now)
+    (s .pre .0 .0)
+    (s .pre .0 .1)
+    (s .pre .0 .2)
 
 shared-slice-read-feed-byte : tie.Need-shared-slice-read-feed-byte Inv-loop μ-loop
 shared-slice-read-feed-byte c = search needs

@@ -1,11 +1,15 @@
 -- `finish`: where bytes are pending, they are the last text line.
+use Rattle.counter.specs.Left.{Slices, slices}
 use Rattle.counter.proofs.Carries.{pending-bytes, last-none, last-turn}
 use borrow.Author.Needs.{needs}
 use Rattle.counter.proofs.finish.Statement.{statement}
 use Rattle.counter.proofs.finish.Tie as tie
 
+abbrev lent : tie.Start → Slices
+lent s = slices (s .args .a .now) (s .args .b .now) (s .args .table-a .now) (s .args .table-b .now) (s .args .line .now)
+
 returns : tie.Need-returns
-returns c = let s = c .before .before .before in last-none (s .args .state) (s .args .a .now) (s .args .b .now) (s .args .line .now) (s .args .out .now) (c .if1 .taken)
+returns c = let s = c .before .before .before in last-none (s .args .state) (lent s) (s .args .out .now) (c .if1 .taken)
 
 slice-aggregate-turn-line : tie.Need-slice-aggregate-turn-line
 slice-aggregate-turn-line c = let s = c .before .before .before .before .before .before .before .before in pending-bytes (s .args .line .now) (s .pre .0 .1) (s .pre .0 .2)
@@ -35,7 +39,7 @@ returns-2 : tie.Need-returns-2
 returns-2 c =
     let line = c .before .before .before .before .before .before .before .before in
     let s = line .before .before .before .before .before .before .before .before .before in
-    last-turn (s .args .state) (s .args .a .now) (s .args .b .now) (s .args .line .now) (s .args .out .now) (s .pre .0 .1) (s .pre .0 .2) (line .before .before .before .before .before .before .if1 .left) (line .turn-line .ensures)
+    last-turn (s .args .state) (lent s) (s .args .out .now) (s .pre .0 .1) (s .pre .0 .2) (line .before .before .before .before .before .before .if1 .left) (line .turn-line .ensures)
     (c .before .before .print-turn .ensures)
 
 pub finish-spec : {M : Type 1} → statement M

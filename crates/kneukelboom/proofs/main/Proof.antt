@@ -5,6 +5,7 @@ use Prim.Native.Nat.{_+_, _*_, _^_, _≤_, _<_}
 use native.Mathlib.Omega.{arith}
 use lib.ListN.{length}
 use Rattle.desk.specs.Chunks.{Carry}
+use Rattle.counter.specs.Left.{slices}
 use Rattle.counter.specs.Carried.{Bounds}
 use borrow.Author.Needs.{needs}
 use Rattle.kneukelboom.proofs.main.Statement.{statement}
@@ -22,7 +23,7 @@ opened-requires c κs = search needs
 
 loop-holds : tie.Need-loop-holds Inv-loop μ-loop
 loop-holds c =
-    let none-read : c .opened .result .read ≡ 0 = ap (λ (k : Carry). k .desk .textLines) (c .opened .ensures .0 [] [] []) in
+    let none-read : c .opened .result .read ≡ 0 = ap (λ (k : Carry). k .desk .textLines) (c .opened .ensures .0 (slices [] [] [] [] [])) in
     (search needs, search needs, search needs, c .opened .ensures .1, omega arith, omega arith)
 
 slice-aggregate-pass : tie.Need-slice-aggregate-pass Inv-loop μ-loop

@@ -27,10 +27,10 @@ finish-requires : tie.Need-finish-requires
 finish-requires c κs = search needs
 
 slice-reshare-prefix-written : tie.Need-slice-reshare-prefix-written
-slice-reshare-prefix-written c = put-within (c .before .before .finish .ensures)
+slice-reshare-prefix-written c = put-within (c .before .before .finish .ensures .printed)
 
 slice-aggregate-written : tie.Need-slice-aggregate-written
-slice-aggregate-written c = let finish = c .before .before .before .finish in sym (length-take-le (finish .result) (finish .last .1 .1 .1 .1 .1 .1 .0) (put-within (finish .ensures)))
+slice-aggregate-written c = let finish = c .before .before .before .finish in sym (length-take-le (finish .result) (finish .last .1 .1 .1 .1 .1 .1 .0) (put-within (finish .ensures .printed)))
 
 written-requires : tie.Need-written-requires
 written-requires c κs = search needs

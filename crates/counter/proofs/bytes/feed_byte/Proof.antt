@@ -1,8 +1,12 @@
 -- `feed_byte` goes by the byte: a line feed ends the text line, and any other byte is kept.
+use Rattle.counter.specs.Left.{Slices, slices}
 use Rattle.counter.proofs.Carries.{pending-bytes, byte-kept, byte-ends}
 use borrow.Author.Needs.{needs}
 use Rattle.counter.proofs.bytes.feed_byte.Statement.{statement}
 use Rattle.counter.proofs.bytes.feed_byte.Tie as tie
+
+abbrev lent : tie.Start → Slices
+lent s = slices (s .args .a .now) (s .args .b .now) (s .args .table-a .now) (s .args .table-b .now) (s .args .line .now)
 
 slice-reshare-prefix-turn-line : tie.Need-slice-reshare-prefix-turn-line
 slice-reshare-prefix-turn-line c = search needs
@@ -38,7 +42,7 @@ returns : tie.Need-returns
 returns c =
     let line = c .before .before .before .before .before .before .before .before .before in
     let s = line .before .before .before .before .before .before .before .before .before .before in
-    byte-ends (s .args .a .now) (s .args .b .now) (s .args .line .now) (s .pre .0 .2) (s .args .out .now) (s .args .fed .wrote) (line .before .before .before .before .before .before .if1 .taken)
+    byte-ends (lent s) (s .pre .0 .2) (s .args .out .now) (s .args .fed .wrote) (line .before .before .before .before .before .before .if1 .taken)
     (line .turn-line .ensures)
     (c .before .before .print-turn .ensures)
 
@@ -52,7 +56,7 @@ returns-2 : tie.Need-returns-2
 returns-2 c =
     let kept = c .before .before in
     let s = kept .before .before .before .before .before .before in
-    byte-kept (s .args .a .now) (s .args .b .now) (s .args .line .now) (s .pre .0 .2) (s .args .out .now) (s .args .fed .wrote) (kept .before .before .if1 .left)
+    byte-kept (lent s) (s .pre .0 .2) (s .args .out .now) (s .args .fed .wrote) (s .pre .0 .1) (kept .before .before .if1 .left)
     (kept .keep-byte .ensures)
 
 pub feed-byte-spec : {M : Type 1} → statement M

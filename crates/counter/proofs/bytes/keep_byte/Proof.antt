@@ -1,7 +1,7 @@
 -- `keep_byte` goes by the room that is left, as `keep` does.
 use mathlib.Core.Path.{refl}
 use native.Mathlib.Omega.{arith}
-use Rattle.counter.proofs.Carries.{keep-behind, keep-none}
+use Rattle.counter.proofs.Carries.{line-behind, line-past, keep-behind, keep-none}
 use borrow.Author.Needs.{needs}
 use Rattle.counter.proofs.bytes.keep_byte.Statement.{statement}
 use Rattle.counter.proofs.bytes.keep_byte.Tie as tie
@@ -20,6 +20,7 @@ returns c =
     let s = c .before in
     record {
       state = refl;
+      left = line-behind (s .args .line .now) (s .args .byte) (omega arith);
       bytes = keep-behind (s .args .line .now) (s .args .state .pending) (s .args .byte) (omega arith) (omega arith) (omega arith);
       kept = omega arith;
     }
@@ -29,6 +30,7 @@ returns-2 c =
     let s = c .before in
     record {
       state = refl;
+      left = line-past (s .args .line .now) (s .args .byte) (omega arith);
       bytes = keep-none (s .args .line .now) (s .args .state .pending) (s .args .byte) (omega arith) (omega arith);
       kept = omega arith;
     }

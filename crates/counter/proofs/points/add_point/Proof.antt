@@ -1,9 +1,10 @@
+-- `add_point` goes by the room that is left, as `withPoint` and `pointLeft` do.
 use native.Mathlib.Omega.{arith}
 use lib.ListN.{length-set}
 use mathlib.Core.Path.{_≡_}
 use mir.Syntax.{w32}
 use mir.Val.{toZ, ofZ}
-use Rattle.counter.proofs.Stores.{point-stored, point-past}
+use Rattle.counter.proofs.Stores.{left-behind, left-past, point-stored, point-past}
 use borrow.Author.Needs.{needs}
 use Rattle.counter.proofs.points.add_point.Statement.{statement}
 use Rattle.counter.proofs.points.add_point.Tie as tie
@@ -40,12 +41,12 @@ returns c =
     let s = c .before in
     let x : toZ w32 (ofZ w32 (s .args .x)) ≡ s .args .x = search needs in
     let y : toZ w32 (ofZ w32 (s .args .y)) ≡ s .args .y = search needs in
-    rw (x, y) (point-stored (s .args .held) (s .args .points .now) (s .pre) (s .args .x) (s .args .y) (c .if1 .taken), omega arith)
+    rw (x, y) (point-stored (s .args .held) (s .args .points .now) (s .pre) (s .args .x) (s .args .y) (c .if1 .taken), (omega arith, left-behind (s .args .points .now) (s .args .x) (s .args .y) (c .if1 .taken)))
 
 returns-2 : tie.Need-returns-2
 returns-2 c =
     let s = c .before in
-    (point-past (s .args .held) (s .args .points .now) (s .pre) (s .args .x) (s .args .y) (c .if1 .left), search needs)
+    (point-past (s .args .held) (s .args .points .now) (s .pre) (s .args .x) (s .args .y) (c .if1 .left), (search needs, left-past (s .args .points .now) (s .args .x) (s .args .y) (c .if1 .left)))
 
 pub add-point-spec : {M : Type 1} → statement M
 add-point-spec =

@@ -1,4 +1,5 @@
 -- `turn_line`: the text line is counted, and then it is its record.
+use Rattle.counter.specs.Left.{numbers}
 use Rattle.counter.proofs.Desks.{ready, line-turns}
 use borrow.Author.Needs.{needs}
 use Rattle.counter.proofs.turns.turn_line.Statement.{statement}
@@ -32,7 +33,9 @@ returns c =
     let done = c .before .before .before .before in
     let read = done .before in
     let start = read .before .before .before .before .before .before .before in
-    line-turns (start .args .state) (start .args .text .now) (start .args .a .now) (start .args .b .now) (read .before .before .before .before .before .counted .ensures)
+    line-turns (start .args .state) (start .args .text .now) (start .args .a .now) (start .args .b .now)
+    (numbers (start .args .a .now) (start .args .b .now) (start .args .table-a .now) (start .args .table-b .now))
+    (read .before .before .before .before .before .counted .ensures)
     (read .record-of .ensures)
     (done .turned .ensures)
 

@@ -1,24 +1,46 @@
--- `turned` goes by the record, as `turnOf` does.
+-- `turned` goes by the record, as `turnOf` and `recordLeft` do.
 use mathlib.Core.Path.{_≡_, refl, sym, _∙_, ap}
-use mir.Syntax.{w32, w64}
-use mir.Val.{SFits, toZ, ofZ}
+use mathlib.Core.List.{List}
+use lib.IntN.{ℤ}
+use mir.Syntax.{w32}
+use mir.Val.{SFits}
 use mir.Facts.{toZ-ofZ}
-use Rattle.whole.specs.Machine.{result}
 use Rattle.words.specs.declared.Record.{Record}
-use Rattle.words.specs.declared.Record.the-variants.{Near, In, Meet, Agree, NotUnderstood}
-use Rattle.print.specs.declared.Said.{Said}
-use Rattle.print.specs.Said.{saidReply}
-use Rattle.desk.specs.Desk.{Desk, saying, takePoint, turnOf}
+use Rattle.words.specs.declared.Record.the-variants.{Pt, Near, In, Agree, NotUnderstood}
+use Rattle.desk.specs.Desk.{Desk, saying, turnOf}
 use Rattle.counter.specs.declared.Turned.{Turned}
+use Rattle.counter.specs.Left.{Both, Numbers, numbers, recordLeft}
 use Rattle.counter.specs.Carried.{deskOf}
-use Rattle.counter.specs.Turns.{quietly, sayingly, Turns}
-use Rattle.counter.proofs.Desks.{saying-turns, turns-same, start-turns}
+use Rattle.counter.specs.Turns.{quietly, Turns}
+use Rattle.counter.proofs.Desks.{turns-same, asked-turns, start-turns}
 use borrow.Author.Needs.{needs}
 use Rattle.counter.proofs.turns.turned.Statement.{statement}
 use Rattle.counter.proofs.turns.turned.Tie as tie
 
 abbrev desk : tie.Start → Desk
 desk s = deskOf (s .args .state) (s .args .a .now) (s .args .b .now)
+
+abbrev lent : tie.Start → Numbers
+lent s = numbers (s .args .a .now) (s .args .b .now) (s .args .table-a .now) (s .args .table-b .now)
+
+-- what a record leaves
+abbrev left : tie.Start → Record → Numbers
+left s q = recordLeft (desk s) (lent s) q
+
+-- with other stores, with another table of A, with other tables
+abbrev storesNow : tie.Start → Both → Numbers
+storesNow s stores = record { stores = stores; tables = lent s .tables }
+
+abbrev tablesNow : tie.Start → Both → Numbers
+tablesNow s tables = record { stores = lent s .stores; tables = tables }
+
+abbrev tableNow : tie.Start → List ℤ → Numbers
+tableNow s table = tablesNow s (record { a = table; b = s .args .table-b .now })
+
+-- the record that is acted on is the one that came
+came : (s : tie.Start) {q : Record} {r : Turned} {a b : List ℤ} {n : Numbers} → q ≡ s .args .«record» → Turns (turnOf (desk s) q) (s .args .state) r a b → n ≡ left s q →
+    Turns (turnOf (desk s) (s .args .«record»)) (s .args .state) r a b × (n ≡ left s (s .args .«record»))
+came s e t l = (turns-same (ap (turnOf (desk s)) e) t, l ∙ ap (left s) e)
 
 -- ---------------- the numbers of a record, read back
 point-x : (c : tie.After-known-told2) → SFits w32 (c .before .record2 .given .0 .0)
@@ -45,13 +67,6 @@ in-y c = search needs
 agree-distance : (c : tie.After-known-told6) → SFits w32 (c .before .record6 .given .0 .0)
 agree-distance c = search needs
 
--- ---------------- what is said of a record
-answered : (s : tie.Start) (q : Record) {r : Turned} {said : Said} → q ≡ s .args .«record» → r ≡ sayingly (s .args .state) said →
-    saying (desk s) (saidReply said) ≡ turnOf (desk s) q → Turns (turnOf (desk s) (s .args .«record»)) (s .args .state) r (s .args .a .now) (s .args .b .now)
-answered s q f e t =
-    turns-same (ap (turnOf (desk s)) f)
-    (saying-turns (s .pre .1) (refl, refl, refl) (s .pre .1 .bounds .count-a, s .pre .1 .bounds .count-b) (s .args .a .now) (s .args .b .now) e t)
-
 enum-known-record : tie.Need-enum-known-record
 enum-known-record c = search needs
 
@@ -70,50 +85,26 @@ take-point-requires c κs = search needs
 enum-known-record-3 : tie.Need-enum-known-record-3
 enum-known-record-3 c = search needs
 
-point-requires : tie.Need-point-requires
-point-requires c κs = search needs
-
-wide-requires : tie.Need-wide-requires
-wide-requires c κs = search needs
-
-near-said-requires : tie.Need-near-said-requires
-near-said-requires c κs = search needs
-
-saying-requires : tie.Need-saying-requires
-saying-requires c κs = search needs
+near-turn-requires : tie.Need-near-turn-requires
+near-turn-requires c κs = search needs
 
 enum-known-record-4 : tie.Need-enum-known-record-4
 enum-known-record-4 c = search needs
 
-point-requires-2 : tie.Need-point-requires-2
-point-requires-2 c κs = search needs
-
-inside-said-requires : tie.Need-inside-said-requires
-inside-said-requires c κs = search needs
-
-saying-requires-2 : tie.Need-saying-requires-2
-saying-requires-2 c κs = search needs
+inside-turn-requires : tie.Need-inside-turn-requires
+inside-turn-requires c κs = search needs
 
 enum-known-record-5 : tie.Need-enum-known-record-5
 enum-known-record-5 c = search needs
 
-meet-said-requires : tie.Need-meet-said-requires
-meet-said-requires c κs = search needs
-
-saying-requires-3 : tie.Need-saying-requires-3
-saying-requires-3 c κs = search needs
+meet-turn-requires : tie.Need-meet-turn-requires
+meet-turn-requires c κs = search needs
 
 enum-known-record-6 : tie.Need-enum-known-record-6
 enum-known-record-6 c = search needs
 
-wide-requires-2 : tie.Need-wide-requires-2
-wide-requires-2 c κs = search needs
-
-agree-said-requires : tie.Need-agree-said-requires
-agree-said-requires c κs = search needs
-
-saying-requires-4 : tie.Need-saying-requires-4
-saying-requires-4 c κs = search needs
+agree-turn-requires : tie.Need-agree-turn-requires
+agree-turn-requires c κs = search needs
 
 enum-told : tie.Need-enum-told
 enum-told c = search needs
@@ -121,16 +112,16 @@ enum-told c = search needs
 refused-requires : tie.Need-refused-requires
 refused-requires c κs = search needs
 
-saying-requires-5 : tie.Need-saying-requires-5
-saying-requires-5 c κs = search needs
+saying-requires : tie.Need-saying-requires
+saying-requires c κs = search needs
 
 returns : tie.Need-returns
 returns c =
     let told = c .before .before .before in
-    let s = told .before .before .before .before in
-    turns-same (sym (ap (turnOf (desk s)) (told .«record» .given .1)))
-    (start-turns (told .«record» .given .0 .0) (s .args .a .now) (s .args .b .now) (s .pre .1)
-    (c .quiet .ensures ∙ ap quietly (c .before .started .ensures)))
+    let s = told .before .before in
+    came s (sym (told .«record» .given .1))
+    (start-turns (told .«record» .given .0 .0) (s .args .a .now) (s .args .b .now) (s .pre .1) (c .quiet .ensures ∙ ap quietly (c .before .started .ensures)))
+    refl
 
 same-length : tie.Need-same-length
 same-length c = search needs
@@ -142,11 +133,10 @@ returns-2 : tie.Need-returns-2
 returns-2 c =
     let done = c .before .before in
     let known = done .before .before .before in
-    let told = known .before in
-    let s = told .before .before .before .before in
-    turns-same ((λ i. takePoint (desk s) (s .args .state .target) (toZ-ofZ (point-x known) i) (toZ-ofZ (point-y known) i))
-    ∙ sym (ap (turnOf (desk s)) (told .record2 .given .1)))
-    (done .take-point .ensures)
+    let told = known .before .record2 .given in
+    let s = known .before .before .before in
+    came s ((λ i. Pt (toZ-ofZ (point-x known) i) (toZ-ofZ (point-y known) i)) ∙ sym (told .1)) (done .take-point .ensures .0)
+    (ap (storesNow s) (done .take-point .ensures .1))
 
 same-length-3 : tie.Need-same-length-3
 same-length-3 c = search needs
@@ -156,19 +146,14 @@ same-length-4 c = search needs
 
 returns-3 : tie.Need-returns-3
 returns-3 c =
-    let done = c .before .before in
-    let wide = done .before .before .before .wide in
-    let point = done .before .before .before .before .point in
-    let known = done .before .before .before .before .before in
+    let done = c .before in
+    let known = done .before .before .before in
     let told = known .before .record3 .given in
-    let s = known .before .before .before .before .before in
-    answered s (Near (point .result .x) (point .result .y) (toZ w64 (ofZ w64 (wide .result))) (told .0 .1 .1 .1 .0))
-    ((λ i. Near ((point .ensures .0 ∙ toZ-ofZ (near-x known)) i) ((point .ensures .1 ∙ toZ-ofZ (near-y known)) i)
-    (result w64 (wide .ok) (wide .ensures ∙ toZ-ofZ (near-distance known)) i)
-    (told .0 .1 .1 .1 .0))
-    ∙ sym (told .1))
-    (c .saying .ensures)
-    (λ i. saying (desk s) (done .near-said .ensures .0 i))
+    let s = known .before .before .before in
+    came s
+    ((λ i. Near (toZ-ofZ (near-x known) i) (toZ-ofZ (near-y known) i) (toZ-ofZ (near-distance known) i) (told .0 .1 .1 .1 .0)) ∙ sym (told .1))
+    (done .near-turn .ensures .0 (s .args .b .now))
+    (ap (tableNow s) (done .near-turn .ensures .1))
 
 same-length-5 : tie.Need-same-length-5
 same-length-5 c = search needs
@@ -178,15 +163,12 @@ same-length-6 c = search needs
 
 returns-4 : tie.Need-returns-4
 returns-4 c =
-    let done = c .before .before in
-    let point = done .before .before .before .point2 in
-    let known = done .before .before .before .before in
+    let done = c .before in
+    let known = done .before .before .before in
     let told = known .before .record4 .given in
-    let s = known .before .before .before .before .before in
-    answered s (In (point .result .x) (point .result .y) (told .0 .1 .1 .0))
-    ((λ i. In ((point .ensures .0 ∙ toZ-ofZ (in-x known)) i) ((point .ensures .1 ∙ toZ-ofZ (in-y known)) i) (told .0 .1 .1 .0)) ∙ sym (told .1))
-    (c .saying2 .ensures)
-    (λ i. saying (desk s) (done .inside-said .ensures .0 i))
+    let s = known .before .before .before in
+    came s ((λ i. In (toZ-ofZ (in-x known) i) (toZ-ofZ (in-y known) i) (told .0 .1 .1 .0)) ∙ sym (told .1)) (done .inside-turn .ensures .0 (s .args .b .now))
+    (ap (tableNow s) (done .inside-turn .ensures .1))
 
 same-length-7 : tie.Need-same-length-7
 same-length-7 c = search needs
@@ -202,10 +184,10 @@ same-length-10 c = search needs
 
 returns-5 : tie.Need-returns-5
 returns-5 c =
-    let done = c .before .before .before in
+    let done = c .before .before in
     let told = done .before .before .before .before .before .before in
-    let s = told .before .before .before .before in
-    answered s (Meet (told .record5 .given .0 .0)) (sym (told .record5 .given .1)) (c .saying3 .ensures) (λ i. saying (desk s) (done .meet-said .ensures .0 i))
+    let s = told .before .before in
+    came s (sym (told .record5 .given .1)) (done .meet-turn .ensures .0) (ap (tablesNow s) (done .meet-turn .ensures .1))
 
 same-length-11 : tie.Need-same-length-11
 same-length-11 c = search needs
@@ -221,21 +203,19 @@ same-length-14 c = search needs
 
 returns-6 : tie.Need-returns-6
 returns-6 c =
-    let done = c .before .before .before in
-    let wide = done .before .before .before .before .before .wide2 in
-    let known = done .before .before .before .before .before .before in
+    let done = c .before .before in
+    let known = done .before .before .before .before .before in
     let told = known .before .record6 .given in
-    let s = known .before .before .before .before .before in
-    answered s (Agree (toZ w64 (ofZ w64 (wide .result))) (told .0 .1 .0))
-    ((λ i. Agree (result w64 (wide .ok) (wide .ensures ∙ toZ-ofZ (agree-distance known)) i) (told .0 .1 .0)) ∙ sym (told .1))
-    (c .saying4 .ensures)
-    (λ i. saying (desk s) (done .agree-said .ensures .0 i))
+    let s = known .before .before .before in
+    came s ((λ i. Agree (toZ-ofZ (agree-distance known) i) (told .0 .1 .0)) ∙ sym (told .1)) (done .agree-turn .ensures .0) (ap (tablesNow s) (done .agree-turn .ensures .1))
 
 returns-7 : tie.Need-returns-7
 returns-7 c =
     let told = c .before .before in
-    let s = told .before .before .before .before in
-    answered s NotUnderstood (sym (told .enum-told .given .1)) (c .saying5 .ensures) (ap (saying (desk s)) (c .before .refused .ensures))
+    let s = told .before .before in
+    came s (sym (told .enum-told .given .1))
+    (asked-turns (s .pre .1) (s .args .a .now) (s .args .b .now) NotUnderstood refl (c .saying .ensures) (ap (saying (desk s)) (c .before .refused .ensures)))
+    refl
 
 pub turned-spec : {M : Type 1} → statement M
 turned-spec =
@@ -247,24 +227,16 @@ turned-spec =
     enum-known-record-2
     take-point-requires
     enum-known-record-3
-    point-requires
-    wide-requires
-    near-said-requires
-    saying-requires
+    near-turn-requires
     enum-known-record-4
-    point-requires-2
-    inside-said-requires
-    saying-requires-2
+    inside-turn-requires
     enum-known-record-5
-    meet-said-requires
-    saying-requires-3
+    meet-turn-requires
     enum-known-record-6
-    wide-requires-2
-    agree-said-requires
-    saying-requires-4
+    agree-turn-requires
     enum-told
     refused-requires
-    saying-requires-5
+    saying-requires
     returns
     same-length
     same-length-2

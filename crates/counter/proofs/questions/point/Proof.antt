@@ -4,11 +4,8 @@ use mir.Syntax.{w32, w64}
 use mir.Facts.{toZ-ofZ}
 use Rattle.whole.specs.Machine.{result}
 use borrow.Author.Needs.{needs}
-use Rattle.counter.proofs.turns.point.Statement.{statement}
-use Rattle.counter.proofs.turns.point.Tie as tie
-use Rattle.counter.proofs.turns.point.Reads as reads
-use Rattle.counter.proofs.turns.point.Lts as lts
-use Rattle.whole.proofs.wide.Reads as wide-reads
+use Rattle.counter.proofs.questions.point.Statement.{statement}
+use Rattle.counter.proofs.questions.point.Tie as tie
 
 wide-requires : tie.Need-wide-requires
 wide-requires c κs = search needs
