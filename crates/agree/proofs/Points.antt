@@ -1,29 +1,96 @@
--- Points asked one after another: one point, then the others where it is near.
+-- Points asked one after another: how the asking of one reads, one point, then the others where it is near.
 use mathlib.Core.Path.{_≡_, refl, sym, _∙_, ap}
 use mathlib.Core.Bool.{Bool, true, false, cond}
-use mathlib.Core.List.{List, [], _∷_}
-use mathlib.Core.Logic.{⊎-elim}
-use Prim.Native.Nat.{ℕ, suc, _+_, _-_, _<_}
+use mathlib.Core.List.{List}
+use Prim.Native.Nat.{ℕ, suc, _+_, _-_, _<_, _≤_}
 use native.Mathlib.Omega.{arith}
-use denote.Enum.Declared.{tagOf}
+use borrow.Author.Tests.{ltb-true, ltb-false, eq-eqb, ne-eqb, eqb-true, eqb-false}
+use lib.Dec.{ltb, eqb}
 use lib.IntN.{ℤ}
-use types.Run.{OneOf}
 use Rattle.rules.specs.declared.Line.{Line}
+use Rattle.rules.specs.declared.Line.the-variants.{LineA, LineB}
 use Rattle.rules.specs.declared.Tally.{Tally}
 use Rattle.rules.specs.Sheet.{point, onSheet}
 use Rattle.rules.specs.Walk.{Walked, ended, over, spent, refused}
-use Rattle.rules.specs.Questions.{Nothing, nearWalk, Asked, allNear, faulted, onNear, askAll, onAllNear}
-use Rattle.agree.specs.declared.Asking.{Asking}
-use Rattle.agree.specs.declared.Asking.the-variants.{AllNear, NotNear, Unasked, Faulted}
-use Rattle.agree.specs.Said.{asked}
-use Rattle.agree.proofs.Asking.{the-type}
+use Rattle.rules.specs.Questions.{Nothing, nearWalk, Asked, allNear, notNear, unasked, faulted, onNear, askAll, onAllNear}
+use Rattle.row.specs.Came.{came, visitsIn, endIn, badRow, badSecond, refusalAt, refusalIn, tallyIn, cameTo}
+use Rattle.row.proofs.Ends.{visits-in, end-in, is-even, is-odd, is-ended, is-spent, is-bad}
+use Rattle.agree.specs.Said.{OFF, offSheet, asked}
 
--- what is not near stays as it is
-pub stops : (x : Asking) → OneOf (1 ∷ 2 ∷ 3 ∷ []) (tagOf the-type x) → (go : Tally → Asked) → asked x ≡ onAllNear (asked x) go
-stops (AllNear y) k go = absurd (⊎-elim (λ e. omega arith) (λ e. ⊎-elim (λ e. omega arith) (λ e. omega arith) e) k)
-stops (NotNear l i y) k go = refl
-stops Unasked k go = refl
-stops (Faulted r) k go = refl
+-- ---------------- how the asking of point i ended
+module _ (line other : Line) (i allowance : ℕ) where
+  module _ (r : ℕ) where
+    pub is-off : endIn r ≡ OFF → asked line other i allowance r ≡ faulted (offSheet line i (visitsIn r))
+    unfolding asked
+    is-off e = (λ j. cond (eq-eqb (endIn r) OFF e j) (faulted (offSheet line i (visitsIn r))) (onNear line i (cameTo tt tt other other allowance r) allNear))
+
+    -- what is not off the sheet is as its walk came to its end
+    pub heard : {w : Walked Nothing} → (endIn r ≡ OFF → ⊥) → cameTo tt tt other other allowance r ≡ w → asked line other i allowance r ≡ onNear line i w allNear
+    unfolding asked
+    heard ne e = (λ j. cond (ne-eqb (endIn r) OFF ne j) (faulted (offSheet line i (visitsIn r))) (onNear line i (e j) allNear))
+
+    pub is-near : endIn r ≡ 2 → asked line other i allowance r ≡ allNear (tallyIn allowance r)
+    is-near e = heard (λ q. omega arith) (is-ended tt tt other other allowance r e)
+
+    pub is-not-near : endIn r < 2 → asked line other i allowance r ≡ notNear line i (tallyIn allowance r)
+    is-not-near small = by (eqb (endIn r) 0) refl
+      where
+        by : (b : Bool) → eqb (endIn r) 0 ≡ b → asked line other i allowance r ≡ notNear line i (tallyIn allowance r)
+        by true e = heard (λ q. omega arith) (is-even tt tt other other allowance r (eqb-true (endIn r) 0 e))
+        by false e = let some = eqb-false (endIn r) 0 e in heard (λ q. omega arith) (is-odd tt tt other other allowance r (omega (arith, some)))
+
+    pub is-unasked : endIn r ≡ 3 → asked line other i allowance r ≡ unasked
+    is-unasked e = heard (λ q. omega arith) (is-spent tt tt other other allowance r e)
+
+    pub is-refused : badRow ≤ endIn r → (endIn r ≡ OFF → ⊥) → asked line other i allowance r ≡ faulted (refusalIn other other r)
+    is-refused big ne = heard ne (is-bad tt tt other other allowance r big)
+
+    -- what is not near stays as it is: by the five tests
+    abbrev byTests : Bool → Bool → Bool → Bool → Bool → Asked
+    byTests b c d e f =
+        cond f (faulted (offSheet line i (visitsIn r)))
+        (onNear line i
+        (cond b (over tt (tallyIn allowance r))
+        (cond c (over tt (tallyIn allowance r)) (cond d (ended (tallyIn allowance r)) (cond e spent (refused (refusalIn other other r))))))
+        allNear)
+
+    module _ (go : Tally → Asked) where
+      kept : (b c e f : Bool) → byTests b c false e f ≡ onAllNear (byTests b c false e f) go
+      kept b c e true = refl
+      kept true c e false = refl
+      kept false true e false = refl
+      kept false false true false = refl
+      kept false false false false = refl
+
+      pub stops : (endIn r ≡ 2 → ⊥) → asked line other i allowance r ≡ onAllNear (asked line other i allowance r) go
+      unfolding asked cameTo
+      stops ne =
+          let n : eqb (endIn r) 2 ≡ false = ne-eqb (endIn r) 2 ne in
+          (λ j. byTests (eqb (endIn r) 0) (eqb (endIn r) 1) (n j) (eqb (endIn r) 3) (eqb (endIn r) OFF))
+          ∙ kept (eqb (endIn r) 0) (eqb (endIn r) 1) (eqb (endIn r) 3) (eqb (endIn r) OFF)
+          ∙ sym (λ j. onAllNear (byTests (eqb (endIn r) 0) (eqb (endIn r) 1) (n j) (eqb (endIn r) 3) (eqb (endIn r) OFF)) go)
+
+  pub reads-off : (v : ℕ) → asked line other i allowance (came v OFF) ≡ faulted (offSheet line i v)
+  reads-off v = is-off (came v OFF) (end-in v OFF (omega arith)) ∙ ap (λ k. faulted (offSheet line i k)) (visits-in v OFF (omega arith))
+
+-- a walk that says the same whatever the second line is called met no bad row of a second line
+pub one-line : (l : Line) (allowance r : ℕ) {w : Walked Nothing} → ((m : Line) → cameTo tt tt l m allowance r ≡ w) → endIn r < badSecond
+one-line l allowance r {w} h = by (ltb (endIn r) badSecond) refl
+  where
+    lineOf : Walked Nothing → Line
+    lineOf (ended y) = l
+    lineOf (over k y) = l
+    lineOf spent = l
+    lineOf (refused f) = f .line
+
+    by : (b : Bool) → ltb (endIn r) badSecond ≡ b → endIn r < badSecond
+    by true e = ltb-true (endIn r) badSecond e
+    by false e =
+        let big : badSecond ≤ endIn r = ltb-false (endIn r) badSecond e in
+        let at : (m : Line) → m ≡ lineOf w = (λ m. sym (λ j. cond (e j) (refusalAt l (endIn r - badRow) (visitsIn r)) (refusalAt m (endIn r - badSecond) (visitsIn r)) .line) ∙ sym (ap lineOf (is-bad tt tt l m allowance r (omega arith))) ∙ ap lineOf (h m)) in
+        let same : LineA ≡ LineB = at LineA ∙ sym (at LineB) in
+        let z : _≡_ {A = ℕ} 0 1 = cc in
+        omega arith
 
 -- after a point's walk: nothing more to ask, and then the rest
 near-then : (l : Line) (i : ℕ) (w : Walked Nothing) (go : Tally → Asked) → onNear l i w go ≡ onAllNear (onNear l i w allNear) go
@@ -38,10 +105,10 @@ module _ (l : Line) (ps : List ℤ) (m : Line) (qs t : List ℤ) (D : ℤ) where
 
   -- one point
   pub one-point : (i : ℕ) (y : Tally) {s : Bool} → onSheet (point ps i) ≡ s
-      → cond s (onNear l i (nearWalk m qs t (point ps i) D y) allNear) (faulted (record { number = 8; line = l; place = i; visits = y .visits })) ≡ asks i 1 y
+      → cond s (onNear l i (nearWalk m qs t (point ps i) D y) allNear) (faulted (offSheet l i (y .visits))) ≡ asks i 1 y
   unfolding askAll
   one-point i y e =
-      sym (λ j. cond (e j) (onNear l i (nearWalk m qs t (point ps i) D y) allNear) (faulted (record { number = 8; line = l; place = i; visits = y .visits })))
+      sym (λ j. cond (e j) (onNear l i (nearWalk m qs t (point ps i) D y) allNear) (faulted (offSheet l i (y .visits))))
 
   -- a point, and then the others
   point-then : (i k : ℕ) (y : Tally) → asks i (suc k) y ≡ onAllNear (asks i 1 y) (asks (suc i) k)
@@ -49,8 +116,8 @@ module _ (l : Line) (ps : List ℤ) (m : Line) (qs t : List ℤ) (D : ℤ) where
   point-then i k y = go (onSheet (point ps i)) (nearWalk m qs t (point ps i) D y)
     where
       go : (b : Bool) (w : Walked Nothing)
-          → cond b (onNear l i w (asks (suc i) k)) (faulted (record { number = 8; line = l; place = i; visits = y .visits }))
-          ≡ onAllNear (cond b (onNear l i w allNear) (faulted (record { number = 8; line = l; place = i; visits = y .visits }))) (asks (suc i) k)
+          → cond b (onNear l i w (asks (suc i) k)) (faulted (offSheet l i (y .visits)))
+          ≡ onAllNear (cond b (onNear l i w allNear) (faulted (offSheet l i (y .visits)))) (asks (suc i) k)
       go true w = near-then l i w (asks (suc i) k)
       go false w = refl
 

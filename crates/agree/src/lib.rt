@@ -1,7 +1,6 @@
 // AGREE: whether each point of one line is near the other line, both ways round. Each point is a NEAR walk of its own, and
-// one tally goes through them all; the answer is that of `rules`, for all numbers that the slices can hold.
+// one count of visits goes through them all; the answer is that of `rules`, for all numbers that the slices can hold.
 use line::Checked;
-use row::Walk;
 use rules::Agreement;
 use rules::Line;
 use rules::Refusal;
@@ -12,113 +11,96 @@ ghost use lib.ListN.{length};
 ghost use Rattle.whole.specs.Range.{Abs≤};
 ghost use Rattle.rules.specs.Sheet.{pointsOf, farthest};
 ghost use Rattle.rules.specs.Reply.{agreementReply};
-ghost use Rattle.rules.specs.Questions.{allNear, onNear, askAll, agreeWalk, agreed, agreeReply};
+ghost use Rattle.rules.specs.Questions.{askAll, agreed, agreeReply};
 ghost use Rattle.line.specs.Fine.{LengthsFine};
-ghost use Rattle.row.specs.Said.{walked};
 ghost use Rattle.agree.specs.Said.{asked};
 
-// What asking points of one line against the other comes to.
-enum Asking {
-    AllNear(Tally),
-    NotNear {
-        line: Line,
-        point: usize,
-        tally: Tally,
-    },
-    Unasked,
-    Faulted(Refusal),
-}
+// How the asking of a point off the sheet ends: above the number of every bad row.
+const OFF: u32 = 131072;
 
-// What the walk of one point comes to.
-fn heard(line: Line, point: usize, walk: Walk) -> Asking
-    ensures { λ r. ⌜ asked r ≡ onNear line point (walked walk) allNear ⌝ }
-{
-    match walk {
-        Walk::Ended(tally) => Asking::AllNear(tally),
-        Walk::Over(tally) => Asking::NotNear { line, point, tally },
-        Walk::Spent => Asking::Unasked,
-        Walk::Refused(refusal) => Asking::Faulted(refusal),
-    }
+// Where the asking of a line's points stopped, and how.
+struct Stopped {
+    at: usize,
+    came: u64,
 }
 
 // Point i of a line against the other: refusal 8, then the walk.
 fn ask_point(
-    line: Line,
     points: &[i32],
     i: usize,
-    other: Line,
     theirs: &[i32],
     table: &[i32],
     d: i64,
-    tally: Tally,
-) -> Asking
+    allowance: u32,
+    visits: u32,
+) -> u64
     requires { ⌜ (2 * i + 1 < length (now points)) × LengthsFine (now theirs) (now table) × Abs≤ farthest d ⌝ }
-    ensures { λ r. ⌜ asked r ≡ askAll line (now (points .entry)) other (now (theirs .entry)) (now (table .entry)) d i 1 tally ⌝ }
+    ensures { λ r. ⌜ ((line other : Line) → asked line other i allowance r ≡ askAll line (now (points .entry)) other (now (theirs .entry)) (now (table .entry)) d i 1 (record { allowance = allowance; visits = visits })) ⌝ }
 {
     let z = line::point_at(points, i);
     if !line::on_sheet(z) {
-        return Asking::Faulted(Refusal {
-            number: 8,
-            line,
-            place: i,
-            visits: tally.visits,
-        });
+        return row::came(visits, OFF);
     }
-    heard(line, i, near::ask(other, theirs, table, z, d, tally))
+    let tally = Tally { allowance, visits };
+    near::ask(theirs, table, z, d, tally)
 }
 
 // The points of a line in order against the other; the first that is not near ends it.
 fn ask_all(
-    line: Line,
     points: &[i32],
-    other: Line,
     theirs: &[i32],
     table: &[i32],
     d: i64,
-    tally: Tally,
-) -> Asking
+    allowance: u32,
+    visits: u32,
+) -> Stopped
     requires { ⌜ LengthsFine (now theirs) (now table) × Abs≤ farthest d ⌝ }
-    ensures { λ r. ⌜ asked r ≡ askAll line (now (points .entry)) other (now (theirs .entry)) (now (table .entry)) d 0 (pointsOf (now (points .entry))) tally ⌝ }
+    ensures { λ r. ⌜ ((line other : Line) → asked line other (r .at) allowance (r .came) ≡ askAll line (now (points .entry)) other (now (theirs .entry)) (now (table .entry)) d 0 (pointsOf (now (points .entry))) (record { allowance = allowance; visits = visits })) ⌝ }
 {
     let count = points.len() / 2;
-    let mut at = tally;
+    let mut came = row::came(visits, 2);
     let mut i = 0;
     while i < count {
-        let asking = ask_point(line, points, i, other, theirs, table, d, at);
-        let Asking::AllNear(next) = asking else {
-            return asking;
-        };
-        at = next;
+        let made = row::visits_in(came);
+        came = ask_point(points, i, theirs, table, d, allowance, made);
+        if row::end_in(came) != 2 {
+            return Stopped { at: i, came };
+        }
         i += 1;
     }
-    Asking::AllNear(at)
+    Stopped { at: i, came }
 }
 
-// The points of A, with table ta, against B, with table tb, and then B's against A.
-fn ask_both(a: &[i32], ta: &[i32], b: &[i32], tb: &[i32], d: i64, tally: Tally) -> Asking
-    requires { ⌜ LengthsFine (now a) (now ta) × LengthsFine (now b) (now tb) × Abs≤ farthest d ⌝ }
-    ensures { λ r. ⌜ asked r ≡ agreeWalk (now (a .entry)) (now (ta .entry)) (now (b .entry)) (now (tb .entry)) d tally ⌝ }
+// What the asking of a line's points against the other comes to.
+fn agreement(line: Line, other: Line, stopped: Stopped, allowance: u32) -> Agreement
+    ensures { λ r. ⌜ agreementReply r ≡ agreed allowance (asked line other (stopped .at) allowance (stopped .came)) ⌝ }
 {
-    let asking = ask_all(Line::LineA, a, Line::LineB, b, tb, d, tally);
-    let Asking::AllNear(next) = asking else {
-        return asking;
-    };
-    ask_all(Line::LineB, b, Line::LineA, a, ta, d, next)
-}
-
-fn agreement(asking: Asking, allowance: u32) -> Agreement
-    ensures { λ r. ⌜ agreementReply r ≡ agreed allowance (asked asking) ⌝ }
-{
-    match asking {
-        Asking::AllNear(tally) => Agreement::Yes(tally.visits),
-        Asking::NotNear { line, point, tally } => Agreement::No {
+    let at = stopped.at;
+    let came = stopped.came;
+    let end = row::end_in(came);
+    let visits = row::visits_in(came);
+    if end < 2 {
+        return Agreement::No {
             line,
-            point,
-            visits: tally.visits,
-        },
-        Asking::Unasked => Agreement::Undecided(allowance),
-        Asking::Faulted(refusal) => Agreement::Refused(refusal),
+            point: at,
+            visits,
+        };
     }
+    if end == 2 {
+        return Agreement::Yes(visits);
+    }
+    if end == 3 {
+        return Agreement::Undecided(allowance);
+    }
+    if end == OFF {
+        return Agreement::Refused(Refusal {
+            number: 8,
+            line,
+            place: at,
+            visits,
+        });
+    }
+    Agreement::Refused(row::refusal(other, other, came))
 }
 
 // Whether two lines agree at a distance: refusals 1, 2, 3, 6 of A, then of B, then 7, then the walks.
@@ -143,12 +125,11 @@ pub fn agree(
     if !near::distance_fits(distance) {
         return Agreement::Refused(line::early(7, Line::NoLine));
     }
-    let fresh = Tally {
-        allowance,
-        visits: 0,
-    };
-    agreement(
-        ask_both(points_a, table_a, points_b, table_b, distance, fresh),
-        allowance,
-    )
+    let a = ask_all(points_a, points_b, table_b, distance, allowance, 0);
+    if row::end_in(a.came) != 2 {
+        return agreement(Line::LineA, Line::LineB, a, allowance);
+    }
+    let visits = row::visits_in(a.came);
+    let b = ask_all(points_b, points_a, table_a, distance, allowance, visits);
+    agreement(Line::LineB, Line::LineA, b, allowance)
 }

@@ -10,10 +10,6 @@ use line::point_at;
 use line::same_point;
 use line::step;
 use line::t_at;
-use row::children_fit;
-use row::left_of;
-use row::right_of;
-use row::root;
 use row::row_at;
 use row::row_good;
 use row::split_of;
@@ -21,25 +17,25 @@ use rules::Line;
 use rules::Next;
 use rules::Node;
 use rules::Point;
-use rules::Refusal;
 use rules::Row;
 use rules::Side;
 use rules::Tally;
 ghost use mathlib.Core.Path.{_≡_};
-ghost use mathlib.Core.Bool.{cond, _&&_};
-ghost use Prim.Native.Nat.{ℕ, _+_, _<_, _≤_};
+ghost use mathlib.Core.Bool.{true, false, cond, _&&_};
+ghost use Prim.Native.Nat.{ℕ, _+_, _≤_};
 ghost use lib.IntN.{pos};
 ghost use lib.ListN.{length};
 ghost use lib.Signed.{ltZ};
 ghost use Rattle.rules.specs.Build.{holdsNumber};
 ghost use Rattle.rules.specs.Plain.{rangeHolds, onSegment, lowHigh, sideOf, crosses};
-ghost use Rattle.rules.specs.Questions.{outside, clearOf, count, openNode, inVisit, sideOfRing, inReply};
+ghost use Rattle.rules.specs.Questions.{outside, clearOf, count, inVisit, sideOfRing, inReply};
 ghost use Rattle.rules.specs.Reply.{sideReply};
 ghost use Rattle.rules.specs.Rows.{ringCheck};
-ghost use Rattle.rules.specs.Walk.{walk, halve};
+ghost use Rattle.rules.specs.Walk.{over, walk};
 ghost use Rattle.visits.specs.Small.{OnSheet, Small};
 ghost use Rattle.row.specs.Stands.{Stands};
-ghost use Rattle.inside.specs.Said.{stepVisit, SplitsInside, ringWalked};
+ghost use Rattle.row.specs.Came.{cameTo};
+ghost use Rattle.inside.specs.Said.{stepVisit, SplitsInside};
 
 // Whether v lies between lo and hi.
 fn holds(lo: i64, hi: i64, v: i64) -> bool
@@ -98,15 +94,16 @@ fn rises(z: Point, l: Point, h: Point) -> bool
     0 < side_of(z, l, h)
 }
 
-// Whether the segment a to b crosses the ray to the right of z.
+// Whether the segment a to b crosses the ray to the right of z. Only its lower end can be low: it is chosen first, so that
+// no branch depends on the way the segment goes.
 fn crosses(z: Point, a: Point, b: Point) -> bool
     requires { ⌜ OnSheet z × OnSheet a × OnSheet b ⌝ }
     ensures { λ r. ⌜ r ≡ crosses z a b ⌝ }
 {
-    if rises(z, a, b) {
-        return true;
-    }
-    rises(z, b, a)
+    let falls = b.y < a.y;
+    let l = if falls { b } else { a };
+    let h = if falls { a } else { b };
+    rises(z, l, h)
 }
 
 // Whether v lies strictly outside lo to hi.
@@ -133,10 +130,9 @@ fn clear_of(r: Row, s: Point, u: Point, z: Point) -> bool
     outside(r.tmin, r.tmax, t_at(s, u, z))
 }
 
-// What one visit does: refused by 10, refused by 11, on-edge, whether to count one crossing, or the halves at a split.
+// What one visit does: refused by 10, on-edge, whether to count one crossing, or the halves at a split.
 enum Step {
     Bad,
-    Beyond,
     Finish,
     Pass(bool),
     Halve(usize),
@@ -151,18 +147,6 @@ fn test_leaf(z: Point, a: Point, b: Point) -> Step
         return Step::Finish;
     }
     Step::Pass(crosses(z, a, b))
-}
-
-// A node that is neither clear of z nor a leaf is split.
-fn halve(points: &[i32], node: Node, split: usize) -> Step
-    requires { ⌜ (4 ≤ length (now points)) × (node .row < 8193) × (node .last < 4097) × SplitsInside node (Step.Halve split) ⌝ }
-    ensures { λ r. ⌜ stepVisit node r ≡ openNode Line.LineA (now (points .entry)) node split halve ⌝ }
-    ensures { λ r. ⌜ SplitsInside node r ⌝ }
-{
-    if !children_fit(points, node, split) {
-        return Step::Beyond;
-    }
-    Step::Halve(split)
 }
 
 // One visit: the row is read and checked; z clear of box and strip counts the chord alone.
@@ -186,15 +170,7 @@ fn visit(points: &[i32], table: &[i32], node: Node, z: Point) -> Step
     if last <= first + 1 {
         return test_leaf(z, start, end);
     }
-    halve(points, node, split_of(r))
-}
-
-// What a walk comes to: on-edge, over with whether the count is odd, without a visit left, or refused.
-enum RingWalk {
-    Ended(Tally),
-    Over(bool, Tally),
-    Spent,
-    Refused(Refusal),
+    Step::Halve(split_of(r))
 }
 
 // Counts are added; only odd or even matters.
@@ -207,38 +183,50 @@ fn add(odd: bool, crossed: bool) -> bool
     crossed
 }
 
-// Refusals 10 and 11, at a row, with the visits made.
-fn refuse(number: u32, row: usize, tally: Tally) -> RingWalk
-    ensures { λ r. ⌜ r ≡ RingWalk.Refused (record { number = number; line = Line.LineA; place = row; visits = tally .visits }) ⌝ }
+// A walk that is over, with whether its count is odd.
+fn over(visits: u32, odd: bool) -> u64
+    ensures { λ r. ⌜ ((allowance : ℕ) → cameTo false true Line.LineA Line.LineA allowance r ≡ over odd (record { allowance = allowance; visits = visits })) ⌝ }
 {
-    RingWalk::Refused(Refusal {
-        number,
-        line: Line::LineA,
-        place: row,
-        visits: tally.visits,
-    })
+    if odd {
+        return row::came(visits, 1);
+    }
+    row::came(visits, 0)
 }
 
-// The walk of a node: the left half, then the right half, with the count handed on. Each way returns at once, so that no
-// answer is copied twice.
-fn walk(points: &[i32], table: &[i32], node: Node, z: Point, odd: bool, tally: Tally) -> RingWalk
-    requires { ⌜ Stands (now points) (now table) node × OnSheet z ⌝ }
-    ensures { λ r. ⌜ ((f : ℕ) → node .last ≤ f + node .first → ringWalked r ≡ walk (inVisit (now (points .entry)) (now (table .entry)) z) f node odd tally) ⌝ }
+// The walk of a node: the left half, then the right half, with the count handed on. Plain numbers and thin references go
+// in, and one number comes out, so that all of them stay in registers.
+fn walk(
+    points: &&[i32],
+    table: &&[i32],
+    row: usize,
+    first: usize,
+    last: usize,
+    x: i64,
+    y: i64,
+    odd: bool,
+    tally: Tally,
+) -> u64
+    requires { ⌜ Stands (now (now points)) (now (now table)) (record { row = row; first = first; last = last }) × OnSheet (record { x = x; y = y }) ⌝ }
+    ensures { λ r. ⌜ ((f : ℕ) → last ≤ f + first → cameTo false true Line.LineA Line.LineA (tally .allowance) r ≡ walk (inVisit (now (now (points .entry))) (now (now (table .entry))) (record { x = x; y = y })) f (record { row = row; first = first; last = last }) odd tally) ⌝ }
 {
-    let Next::Left(tally) = tally.visit() else {
-        return RingWalk::Spent;
+    let Next::Left(counted) = tally.visit() else {
+        return row::came(tally.visits, 3);
     };
-    match visit(points, table, node, z) {
-        Step::Bad => return refuse(10, node.row, tally),
-        Step::Beyond => return refuse(11, node.row, tally),
-        Step::Finish => return RingWalk::Ended(tally),
-        Step::Pass(crossed) => return RingWalk::Over(add(odd, crossed), tally),
-        Step::Halve(split) => {
-            let left = walk(points, table, left_of(node, split), z, odd, tally);
-            let RingWalk::Over(odd, tally) = left else {
+    let made = counted.visits;
+    match visit(*points, *table, Node { row, first, last }, Point { x, y }) {
+        Step::Bad => row::bad_row(made, row),
+        Step::Finish => row::came(made, 2),
+        Step::Pass(crossed) => over(made, add(odd, crossed)),
+        Step::Halve(mid) => {
+            let next = row + 1;
+            let left = walk(points, table, next, first, mid, x, y, odd, counted);
+            if row::stopped(left) {
                 return left;
-            };
-            return walk(points, table, right_of(node, split), z, odd, tally);
+            }
+            let right = row + 2 * (mid - first);
+            let odd = row::end_in(left) == 1;
+            let after = row::tally_in(counted.allowance, left);
+            walk(points, table, right, mid, last, x, y, odd, after)
         }
     }
 }
@@ -256,21 +244,24 @@ fn no_ring(points: &[i32]) -> bool
 }
 
 // Inside when the count is odd.
-fn side_of_ring(walked: RingWalk, allowance: u32) -> Side
-    ensures { λ r. ⌜ sideReply r ≡ sideOfRing allowance (ringWalked walked) ⌝ }
+fn side_of_ring(came: u64, allowance: u32) -> Side
+    ensures { λ r. ⌜ sideReply r ≡ sideOfRing allowance (cameTo false true Line.LineA Line.LineA allowance came) ⌝ }
 {
-    match walked {
-        RingWalk::Ended(tally) => Side::OnEdge(tally.visits),
-        RingWalk::Over(odd, tally) => {
-            if odd {
-                Side::Inside(tally.visits)
-            } else {
-                Side::Outside(tally.visits)
-            }
-        }
-        RingWalk::Spent => Side::Undecided(allowance),
-        RingWalk::Refused(refusal) => Side::Refused(refusal),
+    let end = row::end_in(came);
+    let visits = row::visits_in(came);
+    if end == 0 {
+        return Side::Outside(visits);
     }
+    if end == 1 {
+        return Side::Inside(visits);
+    }
+    if end == 2 {
+        return Side::OnEdge(visits);
+    }
+    if end == 3 {
+        return Side::Undecided(allowance);
+    }
+    Side::Refused(row::refusal(Line::LineA, Line::LineA, came))
 }
 
 // Which side of the ring z is on, by at most this many visits. Refusals 1, 2, 3, 6, 8, 9, then the walk.
@@ -286,12 +277,13 @@ pub fn inside(points: &[i32], table: &[i32], z: Point, allowance: u32) -> Side
     if no_ring(points) {
         return Side::Refused(early(9, Line::LineA));
     }
-    let tally = Tally {
+    let last = points.len() / 2 - 1;
+    let fresh = Tally {
         allowance,
         visits: 0,
     };
     side_of_ring(
-        walk(points, table, root(points), z, false, tally),
+        walk(&points, &table, 0, 0, last, z.x, z.y, false, fresh),
         allowance,
     )
 }

@@ -28,7 +28,7 @@ pub fn greater(a: i64, b: i64) -> i64
 }
 
 // Coordinates are -LIMIT to LIMIT.
-const LIMIT: i64 = 16383;
+pub const LIMIT: i64 = 16383;
 
 // Point i of a line.
 pub fn point_at(points: &[i32], i: usize) -> Point

@@ -1,4 +1,5 @@
 -- Laws that the proofs of `meet` share.
 pub mod GoodRows
+pub mod Steps
 pub mod Halves
 pub mod Replies

@@ -1,10 +1,10 @@
 -- What the functions of `meet` may count on: nodes that lie inside their lines and tables, and sizes for which the machine's
 -- arithmetic is exact.
 use mathlib.Core.List.{List}
-use Prim.Native.Nat.{ℕ, _+_, _*_, _≤_, _<_}
+use Prim.Native.Nat.{_+_, _<_}
 use lib.Dec.{T}
-use lib.IntN.{ℤ}
-use lib.ListN.{length}
+use lib.IntN.{ℤ, pos}
+use lib.Signed.{_≤ℤ_}
 use Rattle.whole.specs.Range.{Abs≤}
 use Rattle.rules.specs.declared.Node.{Node}
 use Rattle.rules.specs.declared.Pair.{Pair}
@@ -35,17 +35,13 @@ pub record PairStands (ps t qs t′ : List ℤ) (n : Pair) : Type 0 where
   pub a-stands : Stands ps t (n .a)
   pub b-stands : Stands qs t′ (n .b)
 
--- a node's row was read, and is good
+-- a node stands, with some table, and its row was read and is good
 pub record Read (ps : List ℤ) (r : Row) (n : Node) : Type 0 where
-  pub some-segment : n .first < n .last
-  pub few-points : n .last < 4097
-  pub in-line : 2 * (n .last) + 1 < length ps
-  pub few-rows : n .row < 8193
+  pub table : List ℤ
+  pub stands : Stands ps table n
   pub row-good : T (good ps r (n .first) (n .last))
 
--- a node is split at an inner point
-pub record Inner (ps : List ℤ) (n : Node) (split : ℕ) : Type 0 where
-  pub some-points : 4 ≤ length ps
-  pub low : n .first < split
-  pub high : split < 4097
-  pub few-rows : n .row < 8193
+-- a node has a segment, and where it has more, its row a split
+pub record HasSplit (r : Row) (n : Node) : Type 0 where
+  pub some-segment : n .first < n .last
+  pub split-above : n .first + 1 < n .last → pos 0 ≤ℤ r .split

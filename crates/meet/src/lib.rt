@@ -7,16 +7,15 @@ use line::Checked;
 use line::check_lengths;
 use line::direction;
 use line::point_at;
-use row::Walk;
 use row::answer;
-use row::children_fit;
-use row::left_of;
-use row::refused;
-use row::right_of;
-use row::root;
+use row::bad_row;
+use row::bad_second;
+use row::came;
 use row::row_at;
 use row::row_good;
 use row::split_of;
+use row::stopped;
+use row::tally_in;
 use rules::Answer;
 use rules::Line;
 use rules::Next;
@@ -35,60 +34,32 @@ ghost use Rattle.rules.specs.Reply.{answerReply};
 ghost use Rattle.rules.specs.Walk.{walk};
 ghost use Rattle.rules.specs.Questions.{leaf, meetVisit, meetReply};
 ghost use Rattle.visits.specs.Small.{OnSheet};
-ghost use Rattle.row.specs.Said.{walked};
-ghost use Rattle.meet.specs.Pairs.{Read, PairStands, Inner};
-ghost use Rattle.meet.specs.Said.{stepVisit, tested, openedA, openedB, opened, compared, segments};
+ghost use Rattle.row.specs.Came.{cameTo};
+ghost use Rattle.meet.specs.Pairs.{HasSplit, Read, PairStands};
+ghost use Rattle.meet.specs.Said.{stepVisit, SplitsInside, tested, opened, compared, pairOf, segments};
 
-// What one visit does: refused by number, line and row; a yes; nothing shared; or a pair is halved.
+// What one visit does: a bad row of A or of B; a yes; nothing shared; or a node is halved, at a point.
 enum Step {
-    Refuse(u32, Line, usize),
+    BadA,
+    BadB,
     Finish,
     Pass,
-    Halve(Pair, Pair),
-}
-
-// The node of line A splits.
-fn open_a(points: &[i32], pair: Pair, split: usize) -> Step
-    requires { ⌜ Inner (now points) (pair .a) split ⌝ }
-    ensures { λ r. ⌜ stepVisit r ≡ openedA (now (points .entry)) pair split ⌝ }
-{
-    let a = pair.a;
-    let b = pair.b;
-    if !children_fit(points, a, split) {
-        return Step::Refuse(11, Line::LineA, a.row);
-    }
-    let left = left_of(a, split);
-    let right = right_of(a, split);
-    Step::Halve(Pair { a: left, b }, Pair { a: right, b })
-}
-
-// The node of line B splits.
-fn open_b(points: &[i32], pair: Pair, split: usize) -> Step
-    requires { ⌜ Inner (now points) (pair .b) split ⌝ }
-    ensures { λ r. ⌜ stepVisit r ≡ openedB (now (points .entry)) pair split ⌝ }
-{
-    let a = pair.a;
-    let b = pair.b;
-    if !children_fit(points, b, split) {
-        return Step::Refuse(11, Line::LineB, b.row);
-    }
-    let left = left_of(b, split);
-    let right = right_of(b, split);
-    Step::Halve(Pair { a, b: left }, Pair { a, b: right })
+    HalveA(usize),
+    HalveB(usize),
 }
 
 // The node with more segments splits, A on a tie.
-fn open_larger(points_a: &[i32], r: Row, points_b: &[i32], q: Row, pair: Pair) -> Step
-    requires { ⌜ Read (now «points_a») r (pair .a) × Read (now «points_b») q (pair .b) ⌝ }
+fn open_larger(r: Row, q: Row, pair: Pair) -> Step
+    requires { ⌜ HasSplit r (pair .a) × HasSplit q (pair .b) ⌝ }
     requires { ⌜ T (not (leaf (pair .a) && leaf (pair .b))) ⌝ }
-    ensures { λ s. ⌜ stepVisit s ≡ opened (now («points_a» .entry)) r (now («points_b» .entry)) q pair ⌝ }
+    ensures { λ s. ⌜ s ≡ opened r q pair ⌝ }
 {
     let a = pair.a;
     let b = pair.b;
     if b.last - b.first <= a.last - a.first {
-        return open_a(points_a, pair, split_of(r));
+        return Step::HalveA(split_of(r));
     }
-    open_b(points_b, pair, split_of(q))
+    Step::HalveB(split_of(q))
 }
 
 fn both_leaves(a: Node, b: Node) -> bool
@@ -101,7 +72,7 @@ fn both_leaves(a: Node, b: Node) -> bool
 // Two leaves get the exact test.
 fn test(a: Point, b: Point, c: Point, d: Point) -> Step
     requires { ⌜ OnSheet a × OnSheet b × OnSheet c × OnSheet d ⌝ }
-    ensures { λ r. ⌜ stepVisit r ≡ tested a b c d ⌝ }
+    ensures { λ s. ⌜ s ≡ tested a b c d ⌝ }
 {
     if share(a, b, c, d) {
         return Step::Finish;
@@ -112,7 +83,7 @@ fn test(a: Point, b: Point, c: Point, d: Point) -> Step
 // What is done with two good rows.
 fn compare(points_a: &[i32], r: Row, points_b: &[i32], q: Row, pair: Pair) -> Step
     requires { ⌜ Read (now «points_a») r (pair .a) × Read (now «points_b») q (pair .b) ⌝ }
-    ensures { λ s. ⌜ stepVisit s ≡ compared (now («points_a» .entry)) r (now («points_b» .entry)) q pair ⌝ }
+    ensures { λ s. ⌜ s ≡ compared (now («points_a» .entry)) r (now («points_b» .entry)) q pair ⌝ }
 {
     let a = pair.a;
     let b = pair.b;
@@ -133,51 +104,88 @@ fn compare(points_a: &[i32], r: Row, points_b: &[i32], q: Row, pair: Pair) -> St
     if both_leaves(a, b) {
         return test(start_a, end_a, start_b, end_b);
     }
-    open_larger(points_a, r, points_b, q, pair)
+    open_larger(r, q, pair)
 }
 
 fn visit(points_a: &[i32], table_a: &[i32], points_b: &[i32], table_b: &[i32], pair: Pair) -> Step
     requires { ⌜ PairStands (now «points_a») (now «table_a») (now «points_b») (now «table_b») pair ⌝ }
-    ensures { λ s. ⌜ stepVisit s ≡ meetVisit (now («points_a» .entry)) (now («table_a» .entry)) (now («points_b» .entry)) (now («table_b» .entry)) pair ⌝ }
+    ensures { λ s. ⌜ stepVisit pair s ≡ meetVisit (now («points_a» .entry)) (now («table_a» .entry)) (now («points_b» .entry)) (now («table_b» .entry)) pair ⌝ }
+    ensures { λ s. ⌜ SplitsInside pair s ⌝ }
 {
     let a = pair.a;
     let b = pair.b;
     let r = row_at(table_a, a.row);
     if !row_good(points_a, r, a.first, a.last) {
-        return Step::Refuse(10, Line::LineA, a.row);
+        return Step::BadA;
     }
     let q = row_at(table_b, b.row);
     if !row_good(points_b, q, b.first, b.last) {
-        return Step::Refuse(10, Line::LineB, b.row);
+        return Step::BadB;
     }
     compare(points_a, r, points_b, q, pair)
 }
 
-// The walk from a pair on, the left half first; a yes ends it.
+// The pair of A's node at row p, from point i to j, and B's at row q, from point k to l.
+fn pair_of(p: usize, i: usize, j: usize, q: usize, k: usize, l: usize) -> Pair
+    ensures { λ r. ⌜ r ≡ pairOf p i j q k l ⌝ }
+{
+    let a = Node {
+        row: p,
+        first: i,
+        last: j,
+    };
+    let b = Node {
+        row: q,
+        first: k,
+        last: l,
+    };
+    Pair { a, b }
+}
+
+// The walk from a pair on, the left half first; a yes ends it. The pair comes as its plain numbers, so that they stay in registers:
+// line A with its points a and table ta, line B with b and tb.
 fn walk(
-    points_a: &[i32],
-    table_a: &[i32],
-    points_b: &[i32],
-    table_b: &[i32],
-    pair: Pair,
+    a: &&[i32],
+    ta: &&[i32],
+    b: &&[i32],
+    tb: &&[i32],
+    p: usize,
+    i: usize,
+    j: usize,
+    q: usize,
+    k: usize,
+    l: usize,
     tally: Tally,
-) -> Walk
-    requires { ⌜ PairStands (now «points_a») (now «table_a») (now «points_b») (now «table_b») pair ⌝ }
-    ensures { λ r. ⌜ ((f : ℕ) → segments pair ≤ f → walked r ≡ walk (meetVisit (now («points_a» .entry)) (now («table_a» .entry)) (now («points_b» .entry)) (now («table_b» .entry))) f pair tt tally) ⌝ }
+) -> u64
+    requires { ⌜ PairStands (now (now a)) (now (now ta)) (now (now b)) (now (now tb)) (pairOf p i j q k l) ⌝ }
+    ensures { λ r. ⌜ ((f : ℕ) → segments (pairOf p i j q k l) ≤ f → cameTo tt tt Line.LineA Line.LineB (tally .allowance) r ≡ walk (meetVisit (now (now (a .entry))) (now (now (ta .entry))) (now (now (b .entry))) (now (now (tb .entry)))) f (pairOf p i j q k l) tt tally) ⌝ }
 {
     let Next::Left(counted) = tally.visit() else {
-        return Walk::Spent;
+        return came(tally.visits, 3);
     };
-    match visit(points_a, table_a, points_b, table_b, pair) {
-        Step::Refuse(number, line, place) => refused(number, line, place, counted),
-        Step::Finish => Walk::Ended(counted),
-        Step::Pass => Walk::Over(counted),
-        Step::Halve(left, right) => {
-            let half = walk(points_a, table_a, points_b, table_b, left, counted);
-            let Walk::Over(after) = half else {
-                return half;
-            };
-            walk(points_a, table_a, points_b, table_b, right, after)
+    let made = counted.visits;
+    match visit(*a, *ta, *b, *tb, pair_of(p, i, j, q, k, l)) {
+        Step::BadA => bad_row(made, p),
+        Step::BadB => bad_second(made, q),
+        Step::Finish => came(made, 2),
+        Step::Pass => came(made, 0),
+        Step::HalveA(split) => {
+            let left = walk(a, ta, b, tb, p + 1, i, split, q, k, l, counted);
+            if stopped(left) {
+                return left;
+            }
+            let right = p + 2 * (split - i);
+            let after = tally_in(counted.allowance, left);
+            walk(a, ta, b, tb, right, split, j, q, k, l, after)
+        }
+        Step::HalveB(split) => {
+            let left = walk(a, ta, b, tb, p, i, j, q + 1, k, split, counted);
+            if stopped(left) {
+                return left;
+            }
+            let right = q + 2 * (split - k);
+            let after = tally_in(counted.allowance, left);
+            walk(a, ta, b, tb, p, i, j, right, split, l, after)
         }
     }
 }
@@ -198,16 +206,26 @@ pub fn meet(
     if let Checked::Refused(refusal) = check_lengths(Line::LineB, points_b, table_b) {
         return Answer::Refused(refusal);
     }
-    let pair = Pair {
-        a: root(points_a),
-        b: root(points_b),
-    };
-    let tally = Tally {
+    let last_a = points_a.len() / 2 - 1;
+    let last_b = points_b.len() / 2 - 1;
+    let fresh = Tally {
         allowance,
         visits: 0,
     };
     answer(
-        walk(points_a, table_a, points_b, table_b, pair, tally),
+        walk(
+            &points_a,
+            &table_a,
+            &points_b,
+            &table_b,
+            0,
+            0,
+            last_a,
+            0,
+            0,
+            last_b,
+            fresh,
+        ),
         allowance,
     )
 }

@@ -2,7 +2,6 @@
 use mathlib.Core.Path.{_≡_, sym}
 use mathlib.Core.Bool.{Bool, cond}
 use mathlib.Core.List.{List}
-use Prim.Native.Nat.{ℕ}
 use lib.IntN.{ℤ}
 use Rattle.rules.specs.declared.Line.{Line}
 use Rattle.rules.specs.declared.Node.{Node}
@@ -11,24 +10,21 @@ use Rattle.rules.specs.Tree.{rowAt}
 use Rattle.rules.specs.Plain.{within}
 use Rattle.rules.specs.Rows.{good}
 use Rattle.rules.specs.Walk.{Visit, refuse, finish, pass, halve}
-use Rattle.rules.specs.Questions.{Nothing, leaf, leftOf, rightOf, splitIn, startOf, endOf, headingOf, farFrom, nearVisit}
-use Rattle.row.specs.Said.{beyond}
+use Rattle.rules.specs.Questions.{Nothing, leaf, splitIn, openNode, startOf, endOf, headingOf, farFrom, nearVisit}
 
--- the row is good, the strip is far, the node is a leaf, its segment is within the distance, a child is beyond the rows
-abbrev pub tested : Line → Node → ℕ → Bool → Bool → Bool → Bool → Bool → Visit Nothing Node
-tested l n s isGood isFar isLeaf isWithin isBeyond =
-    cond isGood
-    (cond isFar (pass (λ k. k)) (cond isLeaf (cond isWithin finish (pass (λ k. k))) (cond isBeyond (refuse 11 l (n .row)) (halve (leftOf n s) (rightOf n s)))))
-    (refuse 10 l (n .row))
+-- the row is good, the strip is far, the node is a leaf, its segment is within the distance, and what opening it comes to
+abbrev pub tested : Line → Node → Bool → Bool → Bool → Bool → Visit Nothing Node → Visit Nothing Node
+tested l n isGood isFar isLeaf isWithin opened =
+    cond isGood (cond isFar (pass (λ k. k)) (cond isLeaf (cond isWithin finish (pass (λ k. k))) opened)) (refuse 10 l (n .row))
 
 module _ (l : Line) (ps t : List ℤ) (z : Point) (D : ℤ) (n : Node) where
   -- the answers of the tests decide the visit
-  pub visit-tested : {isGood isFar isLeaf isWithin isBeyond : Bool}
+  pub visit-tested : {isGood isFar isLeaf isWithin : Bool} {opened : Visit Nothing Node}
       → good ps (rowAt t (n .row)) (n .first) (n .last) ≡ isGood
       → farFrom (rowAt t (n .row)) (startOf ps n) (headingOf ps n) z D ≡ isFar
       → leaf n ≡ isLeaf
       → within z (startOf ps n) (endOf ps n) D ≡ isWithin
-      → beyond ps n (splitIn (rowAt t (n .row))) ≡ isBeyond
-      → tested l n (splitIn (rowAt t (n .row))) isGood isFar isLeaf isWithin isBeyond ≡ nearVisit l ps t z D n
+      → openNode l ps n (splitIn (rowAt t (n .row))) halve ≡ opened
+      → tested l n isGood isFar isLeaf isWithin opened ≡ nearVisit l ps t z D n
   unfolding nearVisit
-  visit-tested g f k w b = sym (λ i. tested l n (splitIn (rowAt t (n .row))) (g i) (f i) (k i) (w i) (b i))
+  visit-tested g f k w o = sym (λ i. tested l n (g i) (f i) (k i) (w i) (o i))

@@ -1,10 +1,6 @@
 // NEAR: whether a point lies within a distance of a line. One visit reads one row, checks it, and dismisses the node, tests
 // its one segment or halves it; the walk and the answer are those of `rules`, for all numbers that the slices can hold.
 use line::Checked;
-use row::Walk;
-use row::left_of;
-use row::refused;
-use row::right_of;
 use rules::Answer;
 use rules::Line;
 use rules::Next;
@@ -26,7 +22,7 @@ ghost use Rattle.rules.specs.Questions.{shortfall, farFrom, nearVisit, nearWalk
 ghost use Rattle.visits.specs.Small.{OnSheet, Small, widest};
 ghost use Rattle.line.specs.Fine.{LengthsFine};
 ghost use Rattle.row.specs.Stands.{Stands};
-ghost use Rattle.row.specs.Said.{walked};
+ghost use Rattle.row.specs.Came.{cameTo};
 ghost use Rattle.near.specs.Bounds.{HoldsStart};
 ghost use Rattle.near.specs.Said.{visitOf, SplitsInside};
 
@@ -88,10 +84,9 @@ fn far_from(r: Row, s: Point, u: Point, z: Point, d: i64) -> bool
     farther(gc, gt, d, line::size2(u))
 }
 
-// What one visit does: a bad row, a child beyond the rows, a yes, nothing near, or two halves.
+// What one visit does: a bad row, a yes, nothing near, or two halves.
 enum Visited {
     Bad,
-    Beyond,
     Finish,
     Pass,
     Halve(usize),
@@ -119,50 +114,53 @@ fn visit(points: &[i32], table: &[i32], node: Node, z: Point, d: i64) -> Visited
         }
         return Visited::Pass;
     }
-    let split = row::split_of(row);
-    if !row::children_fit(points, node, split) {
-        return Visited::Beyond;
-    }
-    Visited::Halve(split)
+    Visited::Halve(row::split_of(row))
 }
 
-// The walk from a node on, left child first; a yes ends it.
+// The walk from a node on, left child first; a yes ends it. Plain numbers and thin references stay in registers.
 fn walk(
-    line: Line,
-    points: &[i32],
-    table: &[i32],
-    node: Node,
-    z: Point,
+    points: &&[i32],
+    table: &&[i32],
+    row: usize,
+    first: usize,
+    last: usize,
+    x: i64,
+    y: i64,
     d: i64,
     tally: Tally,
-) -> Walk
-    requires { ⌜ Stands (now points) (now table) node × OnSheet z × Abs≤ farthest d ⌝ }
-    ensures { λ r. ⌜ ((f : ℕ) → node .last ≤ f + node .first → walked r ≡ walk (nearVisit line (now (points .entry)) (now (table .entry)) z d) f node tt tally) ⌝ }
+) -> u64
+    requires { ⌜ Stands (now (now points)) (now (now table)) (record { row = row; first = first; last = last }) × OnSheet (record { x = x; y = y }) × Abs≤ farthest d ⌝ }
+    ensures { λ r. ⌜ ((l m : Line) (f : ℕ) → last ≤ f + first → cameTo tt tt l m (tally .allowance) r ≡ walk (nearVisit l (now (now (points .entry))) (now (now (table .entry))) (record { x = x; y = y }) d) f (record { row = row; first = first; last = last }) tt tally) ⌝ }
 {
     let Next::Left(counted) = tally.visit() else {
-        return Walk::Spent;
+        return row::came(tally.visits, 3);
     };
-    match visit(points, table, node, z, d) {
-        Visited::Bad => refused(10, line, node.row, counted),
-        Visited::Beyond => refused(11, line, node.row, counted),
-        Visited::Finish => Walk::Ended(counted),
-        Visited::Pass => Walk::Over(counted),
+    let made = counted.visits;
+    let node = Node { row, first, last };
+    match visit(*points, *table, node, Point { x, y }, d) {
+        Visited::Bad => row::bad_row(made, row),
+        Visited::Finish => row::came(made, 2),
+        Visited::Pass => row::came(made, 0),
         Visited::Halve(split) => {
-            let left = walk(line, points, table, left_of(node, split), z, d, counted);
-            let Walk::Over(after) = left else {
+            let low = row + 1;
+            let high = row + 2 * (split - first);
+            let left = walk(points, table, low, first, split, x, y, d, counted);
+            if row::stopped(left) {
                 return left;
-            };
-            walk(line, points, table, right_of(node, split), z, d, after)
+            }
+            let after = row::tally_in(counted.allowance, left);
+            walk(points, table, high, split, last, x, y, d, after)
         }
     }
 }
 
 // NEAR of a line whose lengths, and a point and a distance, are checked; the tally goes on.
-pub fn ask(line: Line, points: &[i32], table: &[i32], z: Point, d: i64, tally: Tally) -> Walk
+pub fn ask(points: &[i32], table: &[i32], z: Point, d: i64, tally: Tally) -> u64
     requires { ⌜ LengthsFine (now points) (now table) × OnSheet z × Abs≤ farthest d ⌝ }
-    ensures { λ r. ⌜ walked r ≡ nearWalk line (now (points .entry)) (now (table .entry)) z d tally ⌝ }
+    ensures { λ r. ⌜ ((l m : Line) → cameTo tt tt l m (tally .allowance) r ≡ nearWalk l (now (points .entry)) (now (table .entry)) z d tally) ⌝ }
 {
-    walk(line, points, table, row::root(points), z, d, tally)
+    let last = points.len() / 2 - 1;
+    walk(&points, &table, 0, 0, last, z.x, z.y, d, tally)
 }
 
 pub fn distance_fits(d: i64) -> bool
@@ -189,8 +187,5 @@ pub fn near(points: &[i32], table: &[i32], z: Point, distance: i64, allowance: u
         allowance,
         visits: 0,
     };
-    row::answer(
-        ask(Line::LineA, points, table, z, distance, fresh),
-        allowance,
-    )
+    row::answer(ask(points, table, z, distance, fresh), allowance)
 }

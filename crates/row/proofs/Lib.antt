@@ -1,5 +1,4 @@
 -- Laws of rows, nodes and walks, for `row` and the crates above it.
 pub mod Parts
 pub mod Places
-pub mod Opens
-pub mod Stops
+pub mod Ends

@@ -1,39 +1,35 @@
--- The row rules of refusal 10 in the order in which the code asks them, and the rows of two children.
-use mathlib.Core.Path.{_≡_, refl, sym, _∙_, ap}
-use mathlib.Core.Bool.{Bool, true, false, not, _&&_, _||_, and-assoc, or-true}
+-- The row rules of refusal 10 in the order in which the code asks them.
+use mathlib.Core.Path.{_≡_}
+use mathlib.Core.Bool.{Bool, true, false, not, cond, _&&_, and-assoc, and-true, and-false}
 use mathlib.Core.List.{List}
-use Prim.Native.Nat.{ℕ, _≤_, _<_}
-use native.Mathlib.Omega.{arith}
-use borrow.Author.Tests.{ltb-true, ltb-false, le-leb, lt-leb}
-use lib.Dec.{leb, ltb}
-use lib.IntN.{ℤ}
+use Prim.Native.Nat.{ℕ}
+use lib.IntN.{ℤ, pos}
+use lib.Signed.{ltZ}
 use Rattle.rules.specs.declared.Row.{Row}
-use Rattle.rules.specs.Plane.{samePoint}
+use Rattle.rules.specs.Plane.{eqZ, samePoint}
 use Rattle.rules.specs.Sheet.{point, onSheet}
-use Rattle.rules.specs.Tree.{isLeaf}
-use Rattle.rules.specs.Rows.{rangeGood, splitGood, stripGood, boxGood, good}
+use Rattle.rules.specs.Tree.{noSplit, isLeaf}
+use Rattle.rules.specs.Rows.{rangeGood, stripGood, boxGood, good}
+
+-- what is asked of a leaf, and of a node of more segments
+abbrev pub lastRule : List ℤ → Row → ℕ → ℕ → Bool
+lastRule ps r first last =
+    cond (isLeaf first last) (eqZ (r .split) noSplit && not (samePoint (point ps first) (point ps last)))
+    (ltZ (pos first) (r .split) && ltZ (r .split) (pos last))
 
 pub good-parts : (ps : List ℤ) (r : Row) (first last : ℕ) →
     good ps r first last
     ≡ rangeGood r first last
-    && (splitGood r first last
-    && (stripGood r
-    && (boxGood r
-    && (onSheet (point ps first) && onSheet (point ps last) && not (isLeaf first last && samePoint (point ps first) (point ps last))))))
+    && (stripGood r && (boxGood r && (onSheet (point ps first) && (onSheet (point ps last) && lastRule ps r first last))))
 unfolding good
 good-parts ps r first last =
-    regroup (rangeGood r first last) (splitGood r first last) (stripGood r) (boxGood r) (onSheet (point ps first) && onSheet (point ps last))
-    (not (isLeaf first last && samePoint (point ps first) (point ps last)))
+    regroup (isLeaf first last) (rangeGood r first last) (eqZ (r .split) noSplit) (ltZ (pos first) (r .split) && ltZ (r .split) (pos last))
+    (stripGood r) (boxGood r) (onSheet (point ps first)) (onSheet (point ps last)) (samePoint (point ps first) (point ps last))
   where
-    regroup : (a b c d e f : Bool) → a && b && c && d && e && f ≡ a && (b && (c && (d && (e && f))))
-    regroup a b c d e f = simp and-assoc
-
--- ---------------- of two children's rows the farther tells of both
-pub farther-tells : (near far rows : ℕ) → near ≤ far → ltb far rows ≡ not (leb rows near || leb rows far)
-farther-tells near far rows h = go (ltb far rows) refl
-  where
-    go : (b : Bool) → ltb far rows ≡ b → b ≡ not (leb rows near || leb rows far)
-    go true e = let l : far < rows = ltb-true far rows e in sym (λ d. not (lt-leb rows near (omega arith) d || lt-leb rows far (omega arith) d))
-    go false e =
-        let l : rows ≤ far = ltb-false far rows e in
-        sym (ap not (ap (λ (k : Bool). leb rows near || k) (le-leb rows far l) ∙ or-true (leb rows near)))
+    regroup : (leaf a none inside b c d e same : Bool) →
+        a && cond leaf none inside && b && c && (d && e) && not (leaf && same)
+        ≡ a && (b && (c && (d && (e && cond leaf (none && not same) inside))))
+    regroup true a true inside b c d e same = simp (and-assoc, and-true)
+    regroup true a false inside b c d e same = simp (and-assoc, and-false)
+    regroup false a none true b c d e same = simp (and-assoc, and-true)
+    regroup false a none false b c d e same = simp (and-assoc, and-false)

@@ -1,13 +1,16 @@
 -- Where a node stands: the root stands inside its line and its table, and so do the halves of a node that does.
+use mathlib.Core.Path.{_≡_}
 use mathlib.Core.List.{List}
 use Prim.Native.Nat.{ℕ, _<_}
 use native.Mathlib.Omega.{arith}
 use lib.IntN.{ℤ}
+use Rattle.rules.specs.declared.Line.{Line}
 use Rattle.rules.specs.declared.Node.{Node}
 use Rattle.rules.specs.Sheet.{segmentsOf}
 use Rattle.rules.specs.Tree.{rowCount}
-use Rattle.rules.specs.Questions.{root, leftOf, rightOf}
-use Rattle.visits.proofs.Nodes.{Fits, root-fits, fits-row, fits-left, fits-right}
+use Rattle.rules.specs.Walk.{Visit}
+use Rattle.rules.specs.Questions.{root, leftOf, rightOf, openNode}
+use Rattle.visits.proofs.Nodes.{Fits, root-fits, fits-row, fits-left, fits-right, open-fits}
 use Rattle.line.specs.Fine.{LengthsFine}
 use Rattle.row.specs.Stands.{Stands}
 
@@ -33,3 +36,7 @@ module _ {ps t : List ℤ} {n : Node} (h : Stands ps t n) where
 
     pub split-small : s < 4097
     split-small = omega (arith, h .points-in, h .fine .not-more)
+
+    -- and room for its children's rows: refusal 11 does not come
+    pub opens : {S N : Type 0} (l : Line) (go : Node → Node → Visit S N) → openNode l ps n s go ≡ go (leftOf n s) (rightOf n s)
+    opens l go = open-fits l ps n s go fits low high

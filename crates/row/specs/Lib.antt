@@ -1,3 +1,3 @@
 -- What the contracts of `row` are said with.
 pub mod Stands
-pub mod Said
+pub mod Came

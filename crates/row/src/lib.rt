@@ -1,12 +1,10 @@
-// Rows and nodes as the machine reads them: a row out of a table, the row rules of refusal 10, the halves of a node, and what
-// a walk comes to. Every function says its result by a definition of `rules`.
-use line::in_sheet;
+// Rows as the machine reads them: a row out of a table, the row rules of refusal 10, and how a walk came to its end. Every function says its result by a definition of `rules`.
+use line::LIMIT;
 use line::on_sheet;
 use line::point_at;
 use line::same_point;
 use rules::Answer;
 use rules::Line;
-use rules::Node;
 use rules::Point;
 use rules::Refusal;
 use rules::Row;
@@ -15,17 +13,16 @@ use whole::wide;
 ghost use mathlib.Core.Path.{_≡_};
 ghost use mathlib.Core.Bool.{not, _&&_};
 ghost use Prim.Native.Nat.{_+_, _*_, _<_, _≤_};
+ghost use lib.Dec.{leb};
 ghost use lib.IntN.{pos};
 ghost use lib.ListN.{length};
-ghost use lib.Signed.{leZ, _≤ℤ_};
-ghost use Rattle.rules.specs.Plane.{samePoint};
-ghost use Rattle.rules.specs.Sheet.{onSheet};
-ghost use Rattle.rules.specs.Tree.{width, rowAt};
+ghost use lib.Signed.{leZ, ltZ, _≤ℤ_};
+ghost use Rattle.rules.specs.Plane.{eqZ, samePoint};
+ghost use Rattle.rules.specs.Tree.{width, rowAt, noSplit};
 ghost use Rattle.rules.specs.Reply.{answerReply};
-ghost use Rattle.rules.specs.Rows.{rangeGood, splitGood, stripGood, sideGood, boxGood, good};
-ghost use Rattle.rules.specs.Walk.{refused};
-ghost use Rattle.rules.specs.Questions.{root, leftOf, rightOf, splitIn, yesOrNo};
-ghost use Rattle.row.specs.Said.{childrenFit, walked};
+ghost use Rattle.rules.specs.Rows.{rangeGood, stripGood, sideGood, boxGood, good};
+ghost use Rattle.rules.specs.Questions.{splitIn, yesOrNo};
+ghost use Rattle.row.specs.Came.{came, visitsIn, endIn, ENDED, badRow, badSecond, refusalIn, tallyIn, cameTo};
 
 // Row r of a table.
 pub fn row_at(table: &[i32], r: usize) -> Row
@@ -55,13 +52,18 @@ fn range_good(r: Row, first: usize, last: usize) -> bool
     r.first == first as i64 && r.last == last as i64
 }
 
-fn split_good(r: Row, first: usize, last: usize) -> bool
-    requires { ⌜ (first < last) × (last < 4097) ⌝ }
-    ensures { λ g. ⌜ g ≡ splitGood r first last ⌝ }
+// A leaf has no split, and its ends differ.
+fn leaf_good(r: Row, a: Point, b: Point) -> bool
+    ensures { λ g. ⌜ g ≡ eqZ (r .split) noSplit && not (samePoint a b) ⌝ }
 {
-    if last <= first + 1 {
-        return r.split == -1;
-    }
+    r.split == -1 && !same_point(a, b)
+}
+
+// A node of more segments splits strictly inside its range.
+fn splits_inside(r: Row, first: usize, last: usize) -> bool
+    requires { ⌜ (first < last) × (last < 4097) ⌝ }
+    ensures { λ g. ⌜ g ≡ ltZ (pos first) (r .split) && ltZ (r .split) (pos last) ⌝ }
+{
     (first as i64) < r.split && r.split < last as i64
 }
 
@@ -81,31 +83,19 @@ fn strip_good(r: Row) -> bool
 fn side_good(lo: i64, hi: i64) -> bool
     ensures { λ g. ⌜ g ≡ sideGood lo hi ⌝ }
 {
+    if lo < -LIMIT {
+        return false;
+    }
     if hi < lo {
         return false;
     }
-    in_sheet(lo) && in_sheet(hi)
+    hi <= LIMIT
 }
 
 fn box_good(r: Row) -> bool
     ensures { λ g. ⌜ g ≡ boxGood r ⌝ }
 {
     side_good(r.xmin, r.xmax) && side_good(r.ymin, r.ymax)
-}
-
-fn ends_good(a: Point, b: Point, leaf: bool) -> bool
-    ensures { λ g. ⌜ g ≡ onSheet a && onSheet b && not (leaf && samePoint a b) ⌝ }
-{
-    if !on_sheet(a) {
-        return false;
-    }
-    if !on_sheet(b) {
-        return false;
-    }
-    if leaf {
-        return !same_point(a, b);
-    }
-    true
 }
 
 // Whether a row that is read at a visit is good, for the range handed down.
@@ -116,20 +106,24 @@ pub fn row_good(points: &[i32], r: Row, first: usize, last: usize) -> bool
     if !range_good(r, first, last) {
         return false;
     }
-    if !split_good(r, first, last) {
-        return false;
-    }
     if !strip_good(r) {
         return false;
     }
     if !box_good(r) {
         return false;
     }
-    ends_good(
-        point_at(points, first),
-        point_at(points, last),
-        last <= first + 1,
-    )
+    let a = point_at(points, first);
+    if !on_sheet(a) {
+        return false;
+    }
+    let b = point_at(points, last);
+    if !on_sheet(b) {
+        return false;
+    }
+    if last <= first + 1 {
+        return leaf_good(r, a, b);
+    }
+    splits_inside(r, first, last)
 }
 
 // The split of a good row that is not a leaf's.
@@ -140,81 +134,94 @@ pub fn split_of(r: Row) -> usize
     r.split as usize
 }
 
-// The node of the whole line.
-pub fn root(points: &[i32]) -> Node
-    requires { ⌜ 2 ≤ length (now points) ⌝ }
-    ensures { λ r. ⌜ r ≡ root (now (points .entry)) ⌝ }
+// How a walk came to its end is one number, which a walk hands back in a register: the visits made, times 2^32, and how it
+// ended below them.
+pub fn came(visits: u32, end: u32) -> u64
+    ensures { λ r. ⌜ r ≡ came visits end ⌝ }
 {
-    Node {
-        row: 0,
-        first: 0,
-        last: points.len() / 2 - 1,
+    visits as u64 * 4294967296 + end as u64
+}
+
+pub fn visits_in(came: u64) -> u32
+    ensures { λ r. ⌜ r ≡ visitsIn came ⌝ }
+{
+    (came / 4294967296) as u32
+}
+
+pub fn end_in(came: u64) -> u32
+    ensures { λ r. ⌜ r ≡ endIn came ⌝ }
+{
+    (came % 4294967296) as u32
+}
+
+// The tally with which what is left to visit goes on.
+pub fn tally_in(allowance: u32, came: u64) -> Tally
+    ensures { λ r. ⌜ r ≡ tallyIn allowance came ⌝ }
+{
+    Tally {
+        allowance,
+        visits: visits_in(came),
     }
 }
 
-// Whether both children's rows are below 2n-1; the right child's is the farther.
-pub fn children_fit(points: &[i32], node: Node, split: usize) -> bool
-    requires { ⌜ (4 ≤ length (now points)) × (node .first < split) × (split < 4097) × (node .row < 8193) ⌝ }
-    ensures { λ r. ⌜ r ≡ childrenFit (now (points .entry)) node split ⌝ }
+// Refused for a bad row of the first line, or of the second.
+pub fn bad_row(visits: u32, row: usize) -> u64
+    requires { ⌜ row < 8193 ⌝ }
+    ensures { λ r. ⌜ r ≡ came visits (badRow + row) ⌝ }
 {
-    let rows = 2 * (points.len() / 2 - 1) - 1;
-    let row = node.row;
-    let first = node.first;
-    row + 2 * (split - first) < rows
+    came(visits, 4 + row as u32)
 }
 
-// The left half is the next row.
-pub fn left_of(node: Node, split: usize) -> Node
-    requires { ⌜ node .row < 8193 ⌝ }
-    ensures { λ r. ⌜ r ≡ leftOf node split ⌝ }
+pub fn bad_second(visits: u32, row: usize) -> u64
+    requires { ⌜ row < 8193 ⌝ }
+    ensures { λ r. ⌜ r ≡ came visits (badSecond + row) ⌝ }
 {
-    Node {
-        row: node.row + 1,
-        first: node.first,
-        last: split,
+    came(visits, 65536 + row as u32)
+}
+
+// Whether the walk stopped, and nothing is left to visit.
+pub fn stopped(came: u64) -> bool
+    ensures { λ r. ⌜ r ≡ leb ENDED (endIn came) ⌝ }
+{
+    2 <= end_in(came)
+}
+
+// Refusal 10, at a row of the first line or of the second.
+pub fn refusal(first: Line, second: Line, came: u64) -> Refusal
+    requires { ⌜ badRow ≤ endIn came ⌝ }
+    ensures { λ r. ⌜ r ≡ refusalIn first second came ⌝ }
+{
+    let end = end_in(came);
+    let visits = visits_in(came);
+    if end < 65536 {
+        return Refusal {
+            number: 10,
+            line: first,
+            place: (end - 4) as usize,
+            visits,
+        };
     }
-}
-
-// The right half is 2*(split-first) rows on; it starts at the split point too.
-pub fn right_of(node: Node, split: usize) -> Node
-    requires { ⌜ (node .row < 8193) × (node .first < split) × (split < 4097) ⌝ }
-    ensures { λ r. ⌜ r ≡ rightOf node split ⌝ }
-{
-    Node {
-        row: node.row + 2 * (split - node.first),
-        first: split,
-        last: node.last,
+    Refusal {
+        number: 10,
+        line: second,
+        place: (end - 65536) as usize,
+        visits,
     }
-}
-
-// What a walk that counts nothing comes to.
-pub enum Walk {
-    Ended(Tally),
-    Over(Tally),
-    Spent,
-    Refused(Refusal),
-}
-
-// The walk stops at a row: refused, with the visits made.
-pub fn refused(number: u32, line: Line, place: usize, tally: Tally) -> Walk
-    ensures { λ r. ⌜ walked r ≡ refused (record { number = number; line = line; place = place; visits = tally .visits }) ⌝ }
-{
-    Walk::Refused(Refusal {
-        number,
-        line,
-        place,
-        visits: tally.visits,
-    })
 }
 
 // The answer of NEAR and MEET.
-pub fn answer(walk: Walk, allowance: u32) -> Answer
-    ensures { λ r. ⌜ answerReply r ≡ yesOrNo allowance (walked walk) ⌝ }
+pub fn answer(came: u64, allowance: u32) -> Answer
+    ensures { λ r. ⌜ answerReply r ≡ yesOrNo allowance (cameTo tt tt Line.LineA Line.LineB allowance came) ⌝ }
 {
-    match walk {
-        Walk::Ended(tally) => Answer::Yes(tally.visits),
-        Walk::Over(tally) => Answer::No(tally.visits),
-        Walk::Spent => Answer::Undecided(allowance),
-        Walk::Refused(refusal) => Answer::Refused(refusal),
+    let end = end_in(came);
+    if end < 2 {
+        return Answer::No(visits_in(came));
     }
+    if end == 2 {
+        return Answer::Yes(visits_in(came));
+    }
+    if end == 3 {
+        return Answer::Undecided(allowance);
+    }
+    Answer::Refused(refusal(Line::LineA, Line::LineB, came))
 }

@@ -1,63 +1,96 @@
--- `ask_all`: what the points from i on come to, from the tally so far, is what they all come to.
+-- `ask_all`: what the points from i on come to, from the visits so far, is what they all come to.
 use mathlib.Core.Path.{_≡_, sym, _∙_, ap}
 use Prim.Native.Nat.{ℕ, _+_, _-_, _≤_}
 use native.Mathlib.Omega.{arith}
 use lib.IntN.{ℤ}
 use mir.Syntax.{w64}
 use mir.Val.{toZ, ofZ}
+use Rattle.rules.specs.declared.Line.{Line}
 use Rattle.rules.specs.declared.Tally.{Tally}
 use Rattle.rules.specs.Sheet.{pointsOf}
 use Rattle.rules.specs.Questions.{Asked, askAll, onAllNear}
 use Rattle.line.proofs.Stored.{stored, stored-abs}
-use Rattle.agree.specs.declared.Asking.{Asking}
+use Rattle.row.specs.Came.{visitsIn, endIn, tallyIn}
+use Rattle.row.proofs.Ends.{visits-in, end-in}
 use Rattle.agree.specs.Said.{asked}
-use Rattle.agree.proofs.Points.{stops, next-point, no-point}
+use Rattle.agree.proofs.Points.{is-near, stops, next-point, no-point}
 use borrow.Author.Needs.{needs}
 use Rattle.agree.proofs.ask_all.Statement.{statement}
 use Rattle.agree.proofs.ask_all.Tie as tie
 
 abbrev Inv-loop : tie.InvT-loop
-Inv-loop line points other theirs table d count at₀ i₀ at i =
-    (i ≤ count) × (askAll line points other theirs table (toZ w64 d) i (count - i) at ≡ askAll line points other theirs table (toZ w64 d) 0 count at₀)
+Inv-loop points theirs table d allowance visits count came₀ i₀ came i =
+    (i ≤ count) × (endIn came ≡ 2)
+    × ((line other : Line) → askAll line points other theirs table (toZ w64 d) i (count - i) (tallyIn allowance came)
+    ≡ askAll line points other theirs table (toZ w64 d) 0 count (record { allowance = allowance; visits = visits }))
 
 abbrev μ-loop : tie.MeasureT-loop
-μ-loop line points other theirs table d count at₀ i₀ at i = count - i
+μ-loop points theirs table d allowance visits count came₀ i₀ came i = count - i
 
 -- points of the line against the other, as many from i on, with the distance as it is read back
-abbrev asks : tie.Start Inv-loop μ-loop → ℕ → ℕ → Tally → Asked
-asks s = askAll (s .args .line) (s .args .points .now) (s .args .other) (s .args .theirs .now) (s .args .table .now) (toZ w64 (ofZ w64 (s .args .d)))
+abbrev asks : tie.Start Inv-loop μ-loop → Line → Line → ℕ → ℕ → Tally → Asked
+asks s line other = askAll line (s .args .points .now) other (s .args .theirs .now) (s .args .table .now) (toZ w64 (ofZ w64 (s .args .d)))
 
 abbrev count : tie.Start Inv-loop μ-loop → ℕ
 count s = pointsOf (s .args .points .now)
 
+abbrev tally : tie.Start Inv-loop μ-loop → ℕ → Tally
+tally s v = record { allowance = s .args .allowance; visits = v }
+
 -- which is the distance itself
-all-asked : (s : tie.Start Inv-loop μ-loop)
-    → asks s 0 (count s) (s .args .tally) ≡ askAll (s .args .line) (s .args .points .now) (s .args .other) (s .args .theirs .now) (s .args .table .now) (s .args .d) 0 (count s) (s .args .tally)
-all-asked s =
-    ap (λ (d : ℤ). askAll (s .args .line) (s .args .points .now) (s .args .other) (s .args .theirs .now) (s .args .table .now) d 0 (count s) (s .args .tally)) (stored (s .pre .1) tt)
+all-asked : (s : tie.Start Inv-loop μ-loop) (line other : Line)
+    → asks s line other 0 (count s) (tally s (s .args .visits))
+    ≡ askAll line (s .args .points .now) other (s .args .theirs .now) (s .args .table .now) (s .args .d) 0 (count s) (tally s (s .args .visits))
+all-asked s line other =
+    ap (λ (d : ℤ). askAll line (s .args .points .now) other (s .args .theirs .now) (s .args .table .now) d 0 (count s) (tally s (s .args .visits))) (stored (s .pre .1) tt)
+
+abbrev start : tie.After-ask-point Inv-loop μ-loop → tie.Start Inv-loop μ-loop
+start c = c .before .before .before .before .before
+
+abbrev at : tie.After-ask-point Inv-loop μ-loop → ℕ
+at c = c .before .before .before .loop .i
 
 -- a point is asked: with those after it, it comes to what they all come to
-after-point : (c : tie.After-ask-point Inv-loop μ-loop)
-    → onAllNear (asked (c .ask-point .result)) (asks (c .before .before .before) (c .before .before .loop .i + 1) (count (c .before .before .before) - (c .before .before .loop .i + 1)))
-    ≡ asks (c .before .before .before) 0 (count (c .before .before .before)) (c .before .before .before .args .tally)
-after-point c =
-    let s = c .before .before .before in
-    let i = c .before .before .loop .i in
-    ap (λ (x : Asked). onAllNear x (asks s (i + 1) (count s - (i + 1)))) (c .ask-point .ensures)
-    ∙ sym (next-point (s .args .line) (s .args .points .now) (s .args .other) (s .args .theirs .now) (s .args .table .now) (toZ w64 (ofZ w64 (s .args .d))) (count s) i (c .before .before .loop .at) (c .before .loop-test .taken))
-    ∙ c .before .before .loop .inv .1
+after-point : (c : tie.After-ask-point Inv-loop μ-loop) (line other : Line)
+    → onAllNear (asked line other (at c) (start c .args .allowance) (c .ask-point .result)) (asks (start c) line other (at c + 1) (count (start c) - (at c + 1)))
+    ≡ asks (start c) line other 0 (count (start c)) (tally (start c) (start c .args .visits))
+after-point c line other =
+    let s = start c in
+    let i = at c in
+    let a = s .args in
+    let v = c .before .visits-in .ensures in
+    ap (λ (x : Asked). onAllNear x (asks s line other (i + 1) (count s - (i + 1)))) (c .ask-point .ensures line other ∙ (λ j. asks s line other i 1 (tally s (v j))))
+    ∙ sym (next-point line (a .points .now) other (a .theirs .now) (a .table .now) (toZ w64 (ofZ w64 (a .d))) (count s) i (tallyIn (a .allowance) (c .before .before .before .loop .came)) (c .before .before .loop-test .taken))
+    ∙ c .before .before .before .loop .inv .2 line other
+
+came-requires : tie.Need-came-requires Inv-loop μ-loop
+came-requires c κs = search needs
 
 loop-holds : tie.Need-loop-holds Inv-loop μ-loop
-loop-holds c = let e : count c - 0 ≡ count c = omega arith in (omega arith, ap (λ (k : ℕ). asks c 0 k (c .args .tally)) e)
+loop-holds c =
+    let s = c .before in
+    let v = s .args .visits in
+    let e = c .came .ensures in
+    let all : count s - 0 ≡ count s = omega arith in (
+      omega arith,
+      ap endIn e ∙ end-in v 2 (omega arith),
+      λ line other. (λ j. asks s line other 0 (all j) (tally s ((ap visitsIn e ∙ visits-in v 2 (omega arith)) j))),
+    )
+
+visits-in-requires : tie.Need-visits-in-requires Inv-loop μ-loop
+visits-in-requires c κs = search needs
 
 ask-point-requires : tie.Need-ask-point-requires Inv-loop μ-loop
-ask-point-requires c κs = let p = c .before .before .pre in (omega (arith, c .loop-test .taken), p .0, stored-abs (p .1) tt)
+ask-point-requires c κs = let p = c .before .before .before .before .pre in (omega (arith, c .before .loop-test .taken), p .0, stored-abs (p .1) tt)
 
-enum-known-asking : tie.Need-enum-known-asking Inv-loop μ-loop
-enum-known-asking c = search needs
+end-in-requires : tie.Need-end-in-requires Inv-loop μ-loop
+end-in-requires c κs = search needs
 
 returns : tie.Need-returns Inv-loop μ-loop
-returns c = stops (c .before .ask-point .result) (c .match .keys2) _ ∙ after-point (c .before) ∙ all-asked (c .before .before .before .before)
+returns c line other =
+    let p = c .before .before in
+    let e = c .before .end-in .ensures in
+    stops line other (at p) (start p .args .allowance) (p .ask-point .result) _ (λ q. c .if1 .taken (e ∙ q)) ∙ after-point p line other ∙ all-asked (start p) line other
 
 add-i : tie.Need-add-i Inv-loop μ-loop
 add-i c = search needs
@@ -67,20 +100,29 @@ loop-less c = search needs
 
 loop-again : tie.Need-loop-again Inv-loop μ-loop
 loop-again c =
-    let s = c .before .before .before .before .before .before in
-    let i = c .before .before .before .before .before .loop .i in (
-      omega (arith, c .before .before .before .before .loop-test .taken),
-      sym (ap (λ (x : Asking). onAllNear (asked x) (asks s (i + 1) (count s - (i + 1)))) (c .before .asking .given .1)) ∙ after-point (c .before .before .before),
+    let p = c .before .before in
+    let s = start p in
+    let i = at p in
+    let e = c .before .end-in .ensures in
+    let near : endIn (p .ask-point .result) ≡ 2 = omega (arith, e, c .if1 .left) in (
+      omega (arith, p .before .before .loop-test .taken),
+      near,
+      λ line other.
+          sym (ap (λ (x : Asked). onAllNear x (asks s line other (i + 1) (count s - (i + 1)))) (is-near line other i (s .args .allowance) (p .ask-point .result) near))
+          ∙ after-point p line other,
     )
 
 returns-2 : tie.Need-returns-2 Inv-loop μ-loop
-returns-2 c =
-    let s = c .before .before in
+returns-2 c line other =
+    let s = c .before .before .before in
+    let a = s .args in
     let i = c .before .loop .i in
+    let r = c .before .loop .came in
     let e : count s - i ≡ 0 = omega (arith, c .loop-test .left) in
-    no-point (s .args .line) (s .args .points .now) (s .args .other) (s .args .theirs .now) (s .args .table .now) (toZ w64 (ofZ w64 (s .args .d))) i (count s - i) (c .before .loop .at) e
-    ∙ c .before .loop .inv .1
-    ∙ all-asked s
+    is-near line other i (a .allowance) r (c .before .loop .inv .1)
+    ∙ no-point line (a .points .now) other (a .theirs .now) (a .table .now) (toZ w64 (ofZ w64 (a .d))) i (count s - i) (tallyIn (a .allowance) r) e
+    ∙ c .before .loop .inv .2 line other
+    ∙ all-asked s line other
 
 pub ask-all-spec : {M : Type 1} → statement M
 ask-all-spec =
@@ -88,9 +130,11 @@ ask-all-spec =
     (tie.spec
     Inv-loop
     μ-loop
+    came-requires
     loop-holds
+    visits-in-requires
     ask-point-requires
-    enum-known-asking
+    end-in-requires
     returns
     add-i
     loop-less

@@ -1,17 +1,25 @@
 -- `ask_point` checks the point, and then walks: one point of the definition.
 use mathlib.Core.Path.{_≡_, sym, _∙_, ap}
+use Prim.Native.Nat.{_<_}
+use native.Mathlib.Omega.{arith}
 use borrow.Author.Tests.{not-true, not-false}
 use Rattle.whole.specs.Order.{T-true}
+use Rattle.rules.specs.declared.Line.{Line}
 use Rattle.rules.specs.declared.Point.{Point}
+use Rattle.rules.specs.declared.Tally.{Tally}
 use Rattle.rules.specs.Sheet.{point, onSheet}
-use Rattle.rules.specs.Walk.{Walked}
-use Rattle.rules.specs.Questions.{Nothing, allNear, onNear, nearWalk}
+use Rattle.rules.specs.Questions.{nearWalk}
 use Rattle.visits.proofs.OnSheets.{on-sheet}
 use Rattle.line.proofs.Stored.{stored, stored-abs}
-use Rattle.agree.proofs.Points.{one-point}
+use Rattle.row.specs.Came.{endIn, badSecond, cameTo}
+use Rattle.agree.specs.Said.{asked}
+use Rattle.agree.proofs.Points.{reads-off, heard, one-line, one-point}
 use borrow.Author.Needs.{needs}
 use Rattle.agree.proofs.ask_point.Statement.{statement}
 use Rattle.agree.proofs.ask_point.Tie as tie
+
+abbrev tally : tie.Start → Tally
+tally s = record { allowance = s .args .allowance; visits = s .args .visits }
 
 -- the point is on the sheet as it stands in the line
 said : (c : tie.After-on-sheet) → c .on-sheet .result ≡ onSheet (point (c .before .before .args .points .now) (c .before .before .args .i))
@@ -23,29 +31,42 @@ point-at-requires c κs = search needs
 on-sheet-requires : tie.Need-on-sheet-requires
 on-sheet-requires c κs = search needs
 
+came-requires : tie.Need-came-requires
+came-requires c κs = search needs
+
 returns : tie.Need-returns
-returns c =
-    let a = c .before .before .before .args in
-    one-point (a .line) (a .points .now) (a .other) (a .theirs .now) (a .table .now) (a .d) (a .i) (a .tally) (sym (said (c .before)) ∙ not-true _ (c .if1 .taken))
+returns c line other =
+    let s = c .before .before .before .before in
+    let a = s .args in
+    ap (asked line other (a .i) (a .allowance)) (c .came .ensures)
+    ∙ reads-off line other (a .i) (a .allowance) (a .visits)
+    ∙ one-point line (a .points .now) other (a .theirs .now) (a .table .now) (a .d) (a .i) (tally s) (sym (said (c .before .before)) ∙ not-true _ (c .before .if1 .taken))
 
 ask-requires : tie.Need-ask-requires
 ask-requires c κs =
     let p = c .before .before .before .pre in
     (p .1, on-sheet _ (T-true (sym (c .before .on-sheet .ensures) ∙ not-false _ (c .if1 .left))), stored-abs (p .2) tt)
 
-heard-requires : tie.Need-heard-requires
-heard-requires c κs = search needs
+abbrev start : tie.After-ask → tie.Start
+start c = c .before .before .before .before
+
+-- what the walk of the point comes to, whatever a second line is called
+walked : (c : tie.After-ask) (l m : Line)
+    → cameTo tt tt l m (start c .args .allowance) (c .ask .result)
+    ≡ nearWalk l (start c .args .theirs .now) (start c .args .table .now) (point (start c .args .points .now) (start c .args .i)) (start c .args .d) (tally (start c))
+walked c l m =
+    let s = start c in
+    let d = stored (s .pre .2) tt in
+    let z = c .before .before .before .point-at .ensures in
+    c .ask .ensures l m ∙ (λ j. nearWalk l (s .args .theirs .now) (s .args .table .now) (z j) (d j) (tally s))
 
 returns-2 : tie.Need-returns-2
-returns-2 c =
-    let s = c .before .before .before .before .before in
-    let a = s .args in
-    let d = stored (s .pre .2) tt in
-    let z = c .before .before .before .before .point-at .ensures in
-    c .heard .ensures
-    ∙ ap (λ (w : Walked Nothing). onNear (a .line) (a .i) w allNear) (c .before .ask .ensures ∙ (λ j. nearWalk (a .other) (a .theirs .now) (a .table .now) (z j) (d j) (a .tally)))
-    ∙ one-point (a .line) (a .points .now) (a .other) (a .theirs .now) (a .table .now) (a .d) (a .i) (a .tally) (sym (said (c .before .before .before)) ∙ not-false _ (c .before .before .if1 .left))
+returns-2 c line other =
+    let a = start c .args in
+    let small : endIn (c .ask .result) < badSecond = one-line other (a .allowance) (c .ask .result) (walked c other) in
+    heard line other (a .i) (a .allowance) (c .ask .result) (λ q. omega arith) (walked c other other)
+    ∙ one-point line (a .points .now) other (a .theirs .now) (a .table .now) (a .d) (a .i) (tally (start c)) (sym (said (c .before .before)) ∙ not-false _ (c .before .if1 .left))
 
 pub ask-point-spec : {M : Type 1} → statement M
 ask-point-spec =
-    tie.close (tie.spec point-at-requires on-sheet-requires returns ask-requires heard-requires returns-2)
+    tie.close (tie.spec point-at-requires on-sheet-requires came-requires returns ask-requires returns-2)

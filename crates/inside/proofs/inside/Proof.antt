@@ -1,28 +1,28 @@
 -- `inside` asks in the order of the checks; then the walk from the root stands in its line and its table.
+-- The points and the table are lent to the walk, so that the places of the code have them as t1 and t2.
 use mathlib.Core.Path.{_≡_, refl, sym, _∙_, ap, subst}
 use mathlib.Core.Bool.{true, false}
 use mathlib.Core.Option.{none}
-use Prim.Native.Nat.{_+_, _≤_}
 use native.Mathlib.Omega.{arith}
 use borrow.Author.Tests.{not-true, not-false}
 use Rattle.whole.specs.Order.{T-true}
 use Rattle.rules.specs.declared.Line.the-variants.{LineA}
-use Rattle.rules.specs.declared.Node.{Node}
 use Rattle.rules.specs.declared.Refusal.{Refusal}
 use Rattle.rules.specs.declared.Side.the-variants.{Refused}
 use Rattle.rules.specs.Sheet.{onSheet, segmentsOf}
 use Rattle.rules.specs.Reply.{sideReply, firstRefusal}
 use Rattle.rules.specs.Rows.{lengthChecks}
 use Rattle.rules.specs.Walk.{walk, fresh}
-use Rattle.rules.specs.Questions.{inVisit, sideOfRing}
+use Rattle.rules.specs.Questions.{root, inVisit, sideOfRing}
 use Rattle.line.specs.declared.Checked.{Checked}
 use Rattle.line.specs.declared.Checked.the-variants.{Fine}
 use Rattle.line.specs.Said.{checkedRefusal}
 use Rattle.line.specs.Fine.{LengthsFine}
 use Rattle.line.proofs.Lengths.{lengths-fine}
+use Rattle.visits.specs.Small.{OnSheet}
 use Rattle.visits.proofs.OnSheets.{on-sheet}
-use Rattle.row.specs.Stands.{Stands}
 use Rattle.row.proofs.Places.{root-stands}
+use Rattle.line.proofs.Stored.{point-stored, stored-on}
 use Rattle.inside.proofs.Replies.{in-checked}
 use borrow.Author.Needs.{needs}
 use Rattle.inside.proofs.inside.Statement.{statement}
@@ -30,13 +30,13 @@ use Rattle.inside.proofs.inside.Tie as tie
 
 -- ---------------- what is known after each check
 lengths-told : (c : tie.After-check-lengths) {k : Checked} → c .check-lengths .result ≡ k
-    → firstRefusal (lengthChecks LineA (c .before .args .points .now) (c .before .args .table .now)) ≡ checkedRefusal k
+    → firstRefusal (lengthChecks LineA (c .before .args .t1 .now) (c .before .args .t2 .now)) ≡ checkedRefusal k
 lengths-told c e = sym (c .check-lengths .ensures) ∙ ap checkedRefusal e
 
-fine : (c : tie.After-enum-told) → firstRefusal (lengthChecks LineA (c .before .before .before .args .points .now) (c .before .before .before .args .table .now)) ≡ none
+fine : (c : tie.After-enum-told) → firstRefusal (lengthChecks LineA (c .before .before .before .args .t1 .now) (c .before .before .before .args .t2 .now)) ≡ none
 fine c = let e : c .before .before .check-lengths .result ≡ Fine = cc in lengths-told (c .before .before) e
 
-lengths : (c : tie.After-enum-told) → LengthsFine (c .before .before .before .args .points .now) (c .before .before .before .args .table .now)
+lengths : (c : tie.After-enum-told) → LengthsFine (c .before .before .before .args .t1 .now) (c .before .before .before .args .t2 .now)
 lengths c = lengths-fine LineA _ _ (fine c)
 
 on : (c : tie.Else1) → onSheet (c .before .before .before .before .before .args .z) ≡ true
@@ -78,14 +78,22 @@ returns-3 c =
     ap (λ (r : Refusal). sideReply (Refused r)) (c .early2 .ensures) ∙ in-checked _ _ _ _ (fine (r .before .before .before)) (on (r .before)) (sym (r .no-ring .ensures) ∙ c .before .if2 .taken)
 
 -- ---------------- the walk
-root-requires : tie.Need-root-requires
-root-requires c κs = omega (arith, lengths (c .before .before .before .before) .some-points)
+sub-last : tie.Need-sub-last
+sub-last c = omega (arith, lengths (c .before .before .before .before) .some-points)
+
+-- where the points are known to be a ring, and where the code starts
+abbrev ringed : tie.After-struct-told2 → tie.After-no-ring
+ringed c = c .before .before .before .before .before
+
+abbrev start : tie.After-struct-told2 → tie.Start
+start c = ringed c .before .before .before .before .before .before
+
+-- the point's numbers are handed on as they are
+asked-on : (c : tie.After-struct-told2) → OnSheet (start c .args .z)
+asked-on c = on-sheet _ (T-true (on (ringed c .before)))
 
 walk-requires : tie.Need-walk-requires
-walk-requires c κs =
-    let e = c .before in
-    let s = e .before .before .before .before .before .before .before in
-    (subst (Stands (s .args .points .now) (s .args .table .now)) (sym (c .root .ensures)) (root-stands (lengths (e .before .before .before .before))), on-sheet _ (T-true (on (e .before .before))))
+walk-requires c κs = (root-stands (lengths (ringed c .before .before .before)), stored-on (asked-on c))
 
 side-of-ring-requires : tie.Need-side-of-ring-requires
 side-of-ring-requires c κs = search needs
@@ -93,15 +101,12 @@ side-of-ring-requires c κs = search needs
 returns-4 : tie.Need-returns-4
 returns-4 c =
     let w = c .before in
-    let r = w .before .before .before in
-    let s = r .before .before .before .before .before .before in
-    let a = s .args in
-    let f = segmentsOf (a .points .now) in
-    let e = w .before .root .ensures in
-    let walked = w .walk .ensures f (subst (λ (n : Node). n .last ≤ f + n .first) (sym e) (omega arith)) in
+    let r = ringed (w .before) in
+    let a = start (w .before) .args in
+    let f = segmentsOf (a .t1 .now) in
     c .side-of-ring .ensures
-    ∙ ap (sideOfRing (a .allowance)) (walked ∙ (λ j. walk (inVisit (a .points .now) (a .table .now) (a .z)) f (e j) false (fresh (a .allowance))))
-    ∙ in-checked _ _ _ _ (fine (r .before .before .before)) (on (r .before)) (sym (r .no-ring .ensures) ∙ w .before .before .if2 .left)
+    ∙ ap (sideOfRing (a .allowance)) (w .walk .ensures f (omega arith) ∙ (λ d. walk (inVisit (a .t1 .now) (a .t2 .now) (point-stored (asked-on (w .before)) d)) f (root (a .t1 .now)) false (fresh (a .allowance))))
+    ∙ in-checked _ _ _ _ (fine (r .before .before .before)) (on (r .before)) (sym (r .no-ring .ensures) ∙ w .before .before .before .before .before .if2 .left)
 
 pub inside-spec : {M : Type 1} → statement M
 inside-spec =
@@ -117,7 +122,7 @@ inside-spec =
     no-ring-requires
     early-requires-2
     returns-3
-    root-requires
+    sub-last
     walk-requires
     side-of-ring-requires
     returns-4)

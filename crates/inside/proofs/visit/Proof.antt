@@ -1,16 +1,19 @@
 -- `visit` reads the row and goes by the cases of the definition; a good row has its end points on the sheet, and its split
 -- inside the node.
 use mathlib.Core.Path.{_≡_, sym, _∙_, subst}
-use native.Mathlib.Omega.{arith}
 use borrow.Author.Tests.{not-true, not-false, le-leb, lt-leb}
 use Rattle.whole.specs.Order.{T-true}
+use Rattle.rules.specs.declared.Line.the-variants.{LineA}
+use Rattle.rules.specs.Walk.{halve}
 use Rattle.rules.specs.Questions.{clearOf}
 use Rattle.visits.proofs.Nodes.{GoodRow, good-read}
 use Rattle.visits.specs.Small.{OnSheet, Small}
+use Rattle.row.proofs.Places.{opens}
 use borrow.Author.Needs.{needs}
 use Rattle.visits.proofs.OnSheets.{on-sheet}
-use Rattle.row.proofs.Places.{row-small}
 use Rattle.visits.proofs.Sizes.{direction-small}
+use Rattle.inside.specs.declared.Step.the-variants.{Halve}
+use Rattle.inside.specs.Said.{SplitsInside}
 use Rattle.inside.proofs.Visits.{RowRead, isClear, visit-bad, visit-clear, visit-leaf, visit-open}
 use Rattle.inside.proofs.visit.Statement.{statement}
 use Rattle.inside.proofs.visit.Tie as tie
@@ -96,19 +99,14 @@ returns-3 c =
 split-of-requires : tie.Need-split-of-requires
 split-of-requires c κs = good-row (c .before .before .before .before) .split-above (c .if3 .left)
 
-halve-requires : tie.Need-halve-requires
-halve-requires c κs =
-    let p = c .before .before .before .before .before in
-    let s = start p .pre .0 in
-    (omega (arith, s .points-in), row-small s, omega (arith, s .points-in, s .fine .not-more), rw (c .split-of .ensures) (good-row p .split-between (c .before .if3 .left)))
-
 returns-4 : tie.Need-returns-4
 returns-4 c =
-    let e = c .before .before in
+    let e = c .before in
     let k = e .before .before in
     let p = k .before .before in
-    let opened = visit-open _ _ (start p .args .z) _ (read p) _ (sym (clear-told k) ∙ e .before .if2 .left) (lt-leb _ _ (e .if3 .left)) (c .before .split-of .ensures) in
-    (c .halve .ensures .0 ∙ opened, c .halve .ensures .1)
+    let inner : SplitsInside (start p .args .node) (Halve (c .split-of .result)) = rw (c .split-of .ensures) (good-row p .split-between (e .if3 .left)) in
+    let opened = visit-open _ _ (start p .args .z) _ (read p) _ (sym (clear-told k) ∙ e .before .if2 .left) (lt-leb _ _ (e .if3 .left)) (c .split-of .ensures) in
+    (sym (opens (start p .pre .0) (inner .0) (inner .1) LineA halve) ∙ opened, inner)
 
 pub visit-spec : {M : Type 1} → statement M
 visit-spec =
@@ -127,5 +125,4 @@ visit-spec =
     test-leaf-requires
     returns-3
     split-of-requires
-    halve-requires
     returns-4)

@@ -2,16 +2,17 @@
 -- row puts them, the headings and the boxes where arithmetic is exact.
 use mathlib.Core.Path.{_≡_, sym, _∙_, subst, subst₂}
 use mathlib.Core.Bool.{Bool, cond, _&&_}
+use native.Mathlib.Omega.{arith}
 use Rattle.whole.specs.Order.{T-false}
 use Rattle.rules.specs.declared.Point.{Point}
 use Rattle.rules.specs.declared.Row.{Row}
 use Rattle.rules.specs.Plane.{direction}
-use Rattle.rules.specs.Walk.{pass}
 use Rattle.rules.specs.Questions.{leaf, startOf, endOf, apart}
 use Rattle.visits.specs.Small.{OnSheet}
+use Rattle.meet.specs.declared.Step.the-variants.{Pass}
 use Rattle.meet.specs.Pairs.{Placed}
 use Rattle.meet.specs.Said.{tested, opened}
-use Rattle.meet.proofs.GoodRows.{start-on, end-on, placed}
+use Rattle.meet.proofs.GoodRows.{start-on, end-on, placed, has-split}
 use borrow.Author.Needs.{needs}
 use Rattle.meet.proofs.compare.Statement.{statement}
 use Rattle.meet.proofs.compare.Tie as tie
@@ -61,10 +62,13 @@ returns c =
     let far =
     sym (told-apart (c .before .before .before .before .before .before .before .before .before .before .args .r) (c .before .before .before .before .before .before .before .before .before .before .args .q) (c .before .before .before .before .before .before .before .point-at .ensures) (c .before .before .before .before .before .before .point-at2 .ensures) (c .before .before .before .direction .ensures) (c .before .before .before .before .before .point-at3 .ensures) (c .before .before .before .before .point-at4 .ensures) (c .before .before .direction2 .ensures) (c .before .apart .ensures)) ∙ c .if1 .taken
     in
-    sym (λ i. cond (far i) (pass (λ k. k)) (cond (leaf (n .a) && leaf (n .b)) (tested (startOf p (n .a)) (endOf p (n .a)) (startOf q (n .b)) (endOf q (n .b))) (opened p (c .before .before .before .before .before .before .before .before .before .before .args .r) q (c .before .before .before .before .before .before .before .before .before .before .args .q) n)))
+    sym (λ i. cond (far i) Pass (cond (leaf (n .a) && leaf (n .b)) (tested (startOf p (n .a)) (endOf p (n .a)) (startOf q (n .b)) (endOf q (n .b))) (opened (c .before .before .before .before .before .before .before .before .before .before .args .r) (c .before .before .before .before .before .before .before .before .before .before .args .q) n)))
 
 both-leaves-requires : tie.Need-both-leaves-requires
-both-leaves-requires c κs = search needs
+both-leaves-requires c κs =
+    let d = c .before .before .before .before .before .before .before .before .before .before .pre in
+    let a = d .0 .stands in
+    let b = d .1 .stands in (omega arith, omega arith)
 
 test-requires : tie.Need-test-requires
 test-requires c κs =
@@ -86,10 +90,12 @@ returns-2 c =
     let leaves = sym (c .before .before .both-leaves .ensures) ∙ c .before .if2 .taken in
     c .test .ensures
     ∙ (λ i. tested (c .before .before .before .before .before .before .before .before .before .before .point-at .ensures i) (c .before .before .before .before .before .before .before .before .before .point-at2 .ensures i) (c .before .before .before .before .before .before .before .before .point-at3 .ensures i) (c .before .before .before .before .before .before .before .point-at4 .ensures i))
-    ∙ sym (λ i. cond (far i) (pass (λ k. k)) (cond (leaves i) (tested (startOf p (n .a)) (endOf p (n .a)) (startOf q (n .b)) (endOf q (n .b))) (opened p (c .before .before .before .before .before .before .before .before .before .before .before .before .before .args .r) q (c .before .before .before .before .before .before .before .before .before .before .before .before .before .args .q) n)))
+    ∙ sym (λ i. cond (far i) Pass (cond (leaves i) (tested (startOf p (n .a)) (endOf p (n .a)) (startOf q (n .b)) (endOf q (n .b))) (opened (c .before .before .before .before .before .before .before .before .before .before .before .before .before .args .r) (c .before .before .before .before .before .before .before .before .before .before .before .before .before .args .q) n)))
 
 open-larger-requires : tie.Need-open-larger-requires
-open-larger-requires c κs = (c .before .before .before .before .before .before .before .before .before .before .before .before .pre, T-false (sym (c .before .both-leaves .ensures) ∙ c .if2 .left))
+open-larger-requires c κs =
+    let d = c .before .before .before .before .before .before .before .before .before .before .before .before .pre in
+    ((has-split (d .0), has-split (d .1)), T-false (sym (c .before .both-leaves .ensures) ∙ c .if2 .left))
 
 returns-3 : tie.Need-returns-3
 returns-3 c =
@@ -101,7 +107,7 @@ returns-3 c =
     in
     let leaves = sym (c .before .before .both-leaves .ensures) ∙ c .before .if2 .left in
     c .open-larger .ensures
-    ∙ sym (λ i. cond (far i) (pass (λ k. k)) (cond (leaves i) (tested (startOf p (n .a)) (endOf p (n .a)) (startOf q (n .b)) (endOf q (n .b))) (opened p (c .before .before .before .before .before .before .before .before .before .before .before .before .before .args .r) q (c .before .before .before .before .before .before .before .before .before .before .before .before .before .args .q) n)))
+    ∙ sym (λ i. cond (far i) Pass (cond (leaves i) (tested (startOf p (n .a)) (endOf p (n .a)) (startOf q (n .b)) (endOf q (n .b))) (opened (c .before .before .before .before .before .before .before .before .before .before .before .before .before .args .r) (c .before .before .before .before .before .before .before .before .before .before .before .before .before .args .q) n)))
 
 pub compare-spec : {M : Type 1} → statement M
 compare-spec =

@@ -8,7 +8,7 @@ use mir.Syntax.{w64}
 use mir.Facts.{toZ-ofZ}
 use Rattle.whole.specs.Order.{T-true}
 use Rattle.rules.specs.declared.Answer.the-variants.{Refused}
-use Rattle.rules.specs.declared.Line.the-variants.{LineA}
+use Rattle.rules.specs.declared.Line.the-variants.{LineA, LineB}
 use Rattle.rules.specs.declared.Refusal.{Refusal}
 use Rattle.rules.specs.Sheet.{distanceFits, onSheet}
 use Rattle.rules.specs.Reply.{firstRefusal, answerReply}
@@ -94,7 +94,7 @@ returns-4 c =
     let s = c .before .before .before .before .before .before .before .before .before in
     let a = s .args in
     c .answer .ensures
-    ∙ ap (yesOrNo (a .allowance)) (c .before .ask .ensures ∙ ap (λ (d : ℤ). nearWalk LineA (a .points .now) (a .table .now) (a .z) d (fresh (a .allowance))) (toZ-ofZ {w = w64} (s .fits .distance)))
+    ∙ ap (yesOrNo (a .allowance)) (c .before .ask .ensures LineA LineB ∙ ap (λ (d : ℤ). nearWalk LineA (a .points .now) (a .table .now) (a .z) d (fresh (a .allowance))) (toZ-ofZ {w = w64} (s .fits .distance)))
     ∙ near-checked (a .points .now) (a .table .now) (a .z) (a .distance) (a .allowance) (fine (c .before .before .before .before .before .before)) (fits (c .before .before .before .before)) (on (c .before .before))
 
 pub near-spec : {M : Type 1} → statement M

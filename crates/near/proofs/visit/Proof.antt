@@ -1,30 +1,29 @@
 -- `visit` makes the tests of the definition in its order; a good row bounds every number that they need.
 use mathlib.Core.Path.{_≡_, refl, sym, _∙_, ap, subst}
-use mathlib.Core.Bool.{Bool, true, false, not}
+use mathlib.Core.Bool.{Bool, true}
 use mathlib.Core.List.{List}
 use Prim.Native.Nat.{ℕ, _<_}
-use native.Mathlib.Omega.{arith}
 use borrow.Author.Tests.{not-true, not-false, le-leb, lt-leb}
 use lib.IntN.{ℤ, pos}
 use lib.Signed.{_≤ℤ_}
 use Rattle.whole.specs.Order.{T-true}
 use Rattle.rules.specs.declared.Line.{Line}
+use Rattle.rules.specs.declared.Node.{Node}
 use Rattle.rules.specs.declared.Row.{Row}
 use Rattle.rules.specs.Plane.{direction}
 use Rattle.rules.specs.Plain.{within}
 use Rattle.rules.specs.Tree.{rowAt}
 use Rattle.rules.specs.Rows.{good}
-use Rattle.rules.specs.Walk.{halve}
-use Rattle.rules.specs.Questions.{leaf, leftOf, rightOf, splitIn, startOf, endOf, headingOf, farFrom, nearVisit}
+use Rattle.rules.specs.Walk.{Visit, halve}
+use Rattle.rules.specs.Questions.{Nothing, leaf, openNode, leftOf, rightOf, splitIn, startOf, endOf, headingOf, farFrom, nearVisit}
 use Rattle.visits.proofs.Nodes.{GoodRow, good-read}
 use Rattle.visits.specs.Small.{OnSheet, Small}
 use Rattle.near.specs.Bounds.{HoldsStart}
 use Rattle.visits.proofs.OnSheets.{on-sheet}
 use Rattle.visits.proofs.Sizes.{direction-small}
 use Rattle.line.proofs.Stored.{stored, stored-abs}
-use Rattle.row.specs.Said.{beyond}
-use Rattle.row.proofs.Places.{row-small, split-small}
 use Rattle.near.proofs.Visits.{tested, visit-tested}
+use Rattle.row.proofs.Places.{opens}
 use borrow.Author.Needs.{needs}
 use Rattle.near.proofs.visit.Statement.{statement}
 use Rattle.near.proofs.visit.Tie as tie
@@ -46,9 +45,9 @@ abbrev isWithin : tie.Start → Bool
 isWithin s = within (s .args .z) (startOf (ps s) (s .args .node)) (endOf (ps s) (s .args .node)) (s .args .d)
 
 -- they decide the visit
-decided : (s : tie.Start) (l : Line) {g f k w b : Bool} → isGood s ≡ g → isFar s ≡ f → leaf (s .args .node) ≡ k → isWithin s ≡ w
-    → beyond (ps s) (s .args .node) (splitIn (row s)) ≡ b
-    → tested l (s .args .node) (splitIn (row s)) g f k w b ≡ nearVisit l (ps s) (s .args .table .now) (s .args .z) (s .args .d) (s .args .node)
+decided : (s : tie.Start) (l : Line) {g f k w : Bool} {o : Visit Nothing Node} → isGood s ≡ g → isFar s ≡ f → leaf (s .args .node) ≡ k → isWithin s ≡ w
+    → openNode l (ps s) (s .args .node) (splitIn (row s)) halve ≡ o
+    → tested l (s .args .node) g f k w o ≡ nearVisit l (ps s) (s .args .table .now) (s .args .z) (s .args .d) (s .args .node)
 decided s l = visit-tested l (ps s) (s .args .table .now) (s .args .z) (s .args .d) (s .args .node)
 
 -- ---------------- the row
@@ -161,40 +160,16 @@ inside c = tells (c .before .before .before .before .before .before .before) .sp
 split-said : (c : tie.After-split-of) → c .split-of .result ≡ splitIn (row (start c))
 split-said c = c .split-of .ensures ∙ ap (λ (r : Row). splitIn r) (c .before .before .before .before .before .before .before .before .before .row-at .ensures)
 
-children-fit-requires : tie.Need-children-fit-requires
-children-fit-requires c κs =
-    let h = inside c in
-    let p = start c .pre .0 in
-    let n = start c .args .node in
-    let e = sym (split-said c) in (
-      omega (arith, p .fine .some-points),
-      subst (λ (x : ℕ). n .first < x) e (h .0),
-      subst (λ (x : ℕ). x < 4097) e (split-small p (h .0) (h .1)),
-      row-small p,
-    )
-
-beyond-said : (c : tie.After-children-fit) → c .children-fit .result ≡ not (beyond (ps (start (c .before))) (start (c .before) .args .node) (splitIn (row (start (c .before)))))
-beyond-said c =
-    let s = start (c .before) in c .children-fit .ensures ∙ ap (λ (x : ℕ). not (beyond (ps s) (s .args .node) x)) (split-said (c .before))
-
--- the tests that came before
-opened : (c : tie.After-split-of) (l : Line) {b : Bool} → beyond (ps (start c)) (start c .args .node) (splitIn (row (start c))) ≡ b
-    → tested l (start c .args .node) (splitIn (row (start c))) true false false (isWithin (start c)) b
-    ≡ nearVisit l (ps (start c)) (start c .args .table .now) (start c .args .z) (start c .args .d) (start c .args .node)
-opened c l e =
-    let f = sym (far-said (c .before .before .before)) ∙ c .before .before .if2 .left in
-    let k = lt-leb _ _ (c .before .if3 .left) in
-    decided (start c) l (was-good (c .before .before .before .before .before .before .before)) f k refl e
-
 returns-5 : tie.Need-returns-5
-returns-5 c = (λ l. opened (c .before .before) l (not-false _ (sym (beyond-said (c .before)) ∙ not-true _ (c .if5 .taken))), tt)
-
-returns-6 : tie.Need-returns-6
-returns-6 c =
-    let n = start (c .before .before) .args .node in
-    let h = inside (c .before .before) in
-    let e = split-said (c .before .before) in (
-      λ l. (λ i. halve (leftOf n (e i)) (rightOf n (e i))) ∙ opened (c .before .before) l (not-true _ (sym (beyond-said (c .before)) ∙ not-false _ (c .if5 .left))),
+returns-5 c =
+    let s = start c in
+    let n = s .args .node in
+    let h = inside c in
+    let e = split-said c in
+    let f = sym (far-said (c .before .before .before)) ∙ c .before .before .if2 .left in
+    let k = lt-leb _ _ (c .before .if3 .left) in (
+      λ l. (λ i. halve (leftOf n (e i)) (rightOf n (e i)))
+          ∙ decided s l (was-good (c .before .before .before .before .before .before .before)) f k refl (opens (s .pre .0) (h .0) (h .1) l halve),
       (subst (λ (x : ℕ). n .first < x) (sym e) (h .0), subst (λ (x : ℕ). x < n .last) (sym e) (h .1)),
     )
 
@@ -215,6 +190,4 @@ visit-spec =
     returns-3
     returns-4
     split-of-requires
-    children-fit-requires
-    returns-5
-    returns-6)
+    returns-5)

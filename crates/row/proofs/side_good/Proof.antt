@@ -1,47 +1,52 @@
--- `side_good` asks the order first, and then each number.
-use mathlib.Core.Path.{_≡_, sym, _∙_, ap}
-use mathlib.Core.Bool.{_&&_}
+-- `side_good` leaves out what follows: a low side on the sheet from below, a high side from above.
+use mathlib.Core.Path.{_≡_, refl, sym, _∙_}
+use mathlib.Core.Bool.{Bool, true, false, _&&_, and-false}
+use lib.IntN.{ℤ, pos, negsuc}
+use lib.Signed.{leZ, _≤ℤ_, _<ℤ_}
 use mir.Syntax.{w64}
 use mir.Facts.{toZ-ofZ}
-use Rattle.whole.specs.Order.{lt-yes, lt-no, le-true, le-false}
-use Rattle.rules.specs.Sheet.{inSheet}
+use Rattle.whole.specs.Order.{≤ℤ-trans, lt-yes, lt-no, le-true, le-false, le-yes}
+use Rattle.rules.specs.Sheet.{between, inSheet}
+use Rattle.rules.specs.Rows.{sideGood}
 use borrow.Author.Needs.{needs}
 use Rattle.row.proofs.side_good.Statement.{statement}
 use Rattle.row.proofs.side_good.Tie as tie
 
+sub-if1 : tie.Need-sub-if1
+sub-if1 c = search needs
+
+low-off : (lo hi : ℤ) → lo <ℤ negsuc 16382 → sideGood lo hi ≡ false
+unfolding between
+low-off lo hi h = simp (le-false h, and-false)
+
+reversed : (lo hi : ℤ) → hi <ℤ lo → sideGood lo hi ≡ false
+reversed lo hi h = simp (le-false h)
+
+high-decides : (lo hi : ℤ) → negsuc 16382 ≤ℤ lo → lo ≤ℤ hi → leZ hi (pos 16383) ≡ sideGood lo hi
+unfolding between
+high-decides lo hi l h = by (leZ hi (pos 16383)) refl
+  where
+    by : (b : Bool) → leZ hi (pos 16383) ≡ b → b ≡ leZ lo hi && (leZ (negsuc 16382) lo && leZ lo (pos 16383)) && (leZ (negsuc 16382) hi && b)
+    by true e = simp (le-true h, le-true l, le-true (≤ℤ-trans h (le-yes refl refl e)), le-true (≤ℤ-trans l h))
+    by false e = simp and-false
+
 returns : tie.Need-returns
 returns c =
     let s = c .before in
-    let h = lt-yes (toZ-ofZ {w = w64} (s .fits .hi)) (toZ-ofZ {w = w64} (s .fits .lo)) (c .if1 .taken) in
-    sym (λ d. le-false h d && inSheet (s .args .lo) && inSheet (s .args .hi))
-
-in-sheet-requires : tie.Need-in-sheet-requires
-in-sheet-requires c κs = search needs
-
-in-sheet-requires-2 : tie.Need-in-sheet-requires-2
-in-sheet-requires-2 c κs = search needs
-
--- what the first call tells of lo
-low : (c : tie.After-in-sheet) → c .in-sheet .result ≡ inSheet (c .before .before .args .lo)
-low c = c .in-sheet .ensures ∙ ap inSheet (toZ-ofZ {w = w64} (c .before .before .fits .lo))
+    sym (low-off (s .args .lo) (s .args .hi) (lt-yes (toZ-ofZ {w = w64} (s .fits .lo)) refl (c .if1 .taken)))
 
 returns-2 : tie.Need-returns-2
 returns-2 c =
-    let a = c .before .before in
-    let s = a .before .before in
-    let hi = toZ-ofZ {w = w64} (s .fits .hi) in
-    let h = lt-no hi (toZ-ofZ {w = w64} (s .fits .lo)) (a .before .if1 .left) in
-    let l = sym (low a) ∙ c .before .if2 .taken in
-    c .in-sheet2 .ensures ∙ ap inSheet hi ∙ sym (λ d. le-true h d && l d && inSheet (s .args .hi))
+    let s = c .before .before in
+    sym (reversed (s .args .lo) (s .args .hi) (lt-yes (toZ-ofZ {w = w64} (s .fits .hi)) (toZ-ofZ {w = w64} (s .fits .lo)) (c .if2 .taken)))
 
 returns-3 : tie.Need-returns-3
 returns-3 c =
-    let a = c .before in
-    let s = a .before .before in
-    let h = lt-no (toZ-ofZ {w = w64} (s .fits .hi)) (toZ-ofZ {w = w64} (s .fits .lo)) (a .before .if1 .left) in
-    let l = sym (low a) ∙ c .if2 .left in
-    c .if2 .left ∙ sym (λ d. le-true h d && l d && inSheet (s .args .hi))
+    let s = c .before .before in
+    let lo = toZ-ofZ {w = w64} (s .fits .lo) in
+    let hi = toZ-ofZ {w = w64} (s .fits .hi) in
+    (λ i. leZ (hi i) (pos 16383))
+    ∙ high-decides (s .args .lo) (s .args .hi) (lt-no lo refl (c .before .if1 .left)) (lt-no hi lo (c .if2 .left))
 
 pub side-good-spec : {M : Type 1} → statement M
-side-good-spec =
-    tie.close (tie.spec returns in-sheet-requires in-sheet-requires-2 returns-2 returns-3)
+side-good-spec = tie.close (tie.spec sub-if1 returns returns-2 returns-3)

@@ -1,0 +1,44 @@
+-- What the code does with two good rows is what the definition does: the node that splits does so at an inner point, so its
+-- children's rows have room, and refusal 11 never comes.
+use mathlib.Core.Path.{_≡_, refl, sym}
+use mathlib.Core.Bool.{Bool, true, false, not, cond, _&&_}
+use mathlib.Core.List.{List}
+use lib.Dec.{T, leb, leb→le, nleb→lt}
+use lib.IntN.{ℤ}
+use Rattle.rules.specs.declared.Line.the-variants.{LineA, LineB}
+use Rattle.rules.specs.declared.Pair.{Pair}
+use Rattle.rules.specs.declared.Row.{Row}
+use Rattle.rules.specs.Plain.{share}
+use Rattle.rules.specs.Walk.{Visit, finish, pass}
+use Rattle.rules.specs.Questions.{Nothing, leaf, size, splitIn, openNode, startOf, endOf, headingOf, apart}
+use Rattle.visits.proofs.Nodes.{larger-opens, other-opens}
+use Rattle.row.proofs.Places.{opens}
+use Rattle.meet.specs.declared.Step.{Step}
+use Rattle.meet.specs.Pairs.{Read}
+use Rattle.meet.specs.Said.{stepVisit, SplitsInside, halvesA, halvesB, compared}
+use Rattle.meet.proofs.GoodRows.{split-inside}
+
+-- the definition, after both rows are read and good
+abbrev pub comparedVisit : List ℤ → Row → List ℤ → Row → Pair → Visit Nothing Pair
+comparedVisit ps r qs q n =
+    cond (apart r (startOf ps (n .a)) (headingOf ps (n .a)) q (startOf qs (n .b)) (headingOf qs (n .b))) (pass (λ k. k))
+    (cond (leaf (n .a) && leaf (n .b)) (cond (share (startOf ps (n .a)) (endOf ps (n .a)) (startOf qs (n .b)) (endOf qs (n .b))) finish (pass (λ k. k)))
+    (cond (leb (size (n .b)) (size (n .a))) (openNode LineA ps (n .a) (splitIn r) (halvesA n)) (openNode LineB qs (n .b) (splitIn q) (halvesB n))))
+
+-- a step is such a visit, and splits inside
+abbrev pub Does : Pair → Step → Visit Nothing Pair → Type 0
+Does n s v = (stepVisit n s ≡ v) × SplitsInside n s
+
+by-test : (n : Pair) (b : Bool) (s s′ : Step) (v v′ : Visit Nothing Pair) → (T b → Does n s v) → (T (not b) → Does n s′ v′) → Does n (cond b s s′) (cond b v v′)
+by-test n true s s′ v v′ h k = h tt
+by-test n false s s′ v v′ h k = k tt
+
+module _ {ps qs : List ℤ} {r q : Row} (n : Pair) (a : Read ps r (n .a)) (b : Read qs q (n .b)) where
+  pub compared-does : Does n (compared ps r qs q n) (comparedVisit ps r qs q n)
+  compared-does =
+      by-test n (apart r (startOf ps (n .a)) (headingOf ps (n .a)) q (startOf qs (n .b)) (headingOf qs (n .b))) _ _ _ _ (λ _. (refl, tt))
+      (λ _. by-test n (leaf (n .a) && leaf (n .b)) _ _ _ _
+      (λ _. by-test n (share (startOf ps (n .a)) (endOf ps (n .a)) (startOf qs (n .b)) (endOf qs (n .b))) _ _ _ _ (λ _. (refl, tt)) (λ _. (refl, tt)))
+      (λ u. by-test n (leb (size (n .b)) (size (n .a))) _ _ _ _
+      (λ k. let i = split-inside a (larger-opens (n .a) (n .b) u (leb→le _ _ k)) in (sym (opens (a .stands) (i .0) (i .1) LineA (halvesA n)), i))
+      (λ k. let i = split-inside b (other-opens (n .a) (n .b) u (nleb→lt _ _ k)) in (sym (opens (b .stands) (i .0) (i .1) LineB (halvesB n)), i))))

@@ -1,0 +1,17 @@
+-- `tally_in` reads the visits out of the number.
+use mathlib.Core.Path.{_≡_, ap}
+use Prim.Native.Nat.{ℕ}
+use Rattle.rules.specs.declared.Tally.{Tally}
+use borrow.Author.Needs.{needs}
+use Rattle.row.proofs.tally_in.Statement.{statement}
+use Rattle.row.proofs.tally_in.Tie as tie
+
+visits-in-requires : tie.Need-visits-in-requires
+visits-in-requires c κs = search needs
+
+returns : tie.Need-returns
+returns c =
+    ap (λ (v : ℕ). record { allowance = c .before .args .allowance; visits = v }) (c .visits-in .ensures)
+
+pub tally-in-spec : {M : Type 1} → statement M
+tally-in-spec = tie.close (tie.spec visits-in-requires returns)
