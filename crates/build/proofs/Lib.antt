@@ -1,6 +1,10 @@
 -- Laws that the proofs of `build` share.
+pub mod Points
+pub mod Ends
 pub mod SoFar
 pub mod Numbers
 pub mod Lowest
+pub mod Leaf
 pub mod Node
+pub mod Boxes
 pub mod Parts

@@ -10,6 +10,9 @@ use Rattle.built.specs.RowRange.{AllFit}
 pub wide-same : {z : ℤ} → SFits w32 z → toZ w64 (ofZ w64 z) ≡ z
 wide-same h = toZ-ofZ (sfits-widen {w = w32} tt h)
 
+pub narrow-same : {z : ℤ} → SFits w32 z → toZ w32 (ofZ w32 (toZ w64 (ofZ w64 z))) ≡ z
+narrow-same h = ap (λ (v : ℤ). toZ w32 (ofZ w32 v)) (wide-same h) ∙ toZ-ofZ h
+
 -- each number, out of 64 bits
 abbrev pub wides : List ℤ → List ℤ
 wides [] = []
@@ -26,7 +29,7 @@ narrows (z ∷ zs) = toZ w32 (ofZ w32 (toZ w64 (ofZ w64 z))) ∷ narrows zs
 
 pub narrows-same : (zs : List ℤ) → AllFit zs → narrows zs ≡ zs
 narrows-same [] h = refl
-narrows-same (z ∷ zs) h = λ d. (ap (λ (v : ℤ). toZ w32 (ofZ w32 v)) (wide-same (h .0)) ∙ toZ-ofZ (h .0)) d ∷ narrows-same zs (h .1) d
+narrows-same (z ∷ zs) h = λ d. narrow-same (h .0) d ∷ narrows-same zs (h .1) d
 
 -- what fits, read out of 64 bits, may be cast to 32
 pub wide-fits : {z : ℤ} → SFits w32 z → SFits w32 (toZ w64 (ofZ w64 z))

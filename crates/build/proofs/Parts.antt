@@ -1,4 +1,5 @@
--- A table written in three steps: a row at the front, rows in a part of just their length, and rows in what is left.
+-- A table written in four steps: a row at the front without its box, rows in a part of just their length, rows in what is
+-- left, and the box by the first of each.
 use mathlib.Core.Path.{_≡_, sym, ap, _∙_}
 use mathlib.Core.List.{List, [], _++_, append-assoc, append-nil}
 use Prim.Native.Nat.{ℕ, _+_, _*_, _-_, _≤_, _<_}
@@ -6,7 +7,10 @@ use native.Mathlib.Omega.{arith}
 use lib.IntN.{ℤ}
 use lib.ListN.{length, take, drop, length-append, length-drop, drop-of-length-le}
 use lib.Seq.{take-at, drop-at, drop-drop, length-take-le, drop-length, take-length}
-use Rattle.rules.specs.Tree.{width, rowCount}
+use Rattle.rules.specs.declared.Row.{Row}
+use Rattle.rules.specs.Tree.{width, numbers, rowAt, rowCount}
+use Rattle.built.proofs.Rows.{row-front}
+use Rattle.build.specs.Run.{unboxed, joined, rowFrom, boxedBy}
 
 -- what a list is after its part from a on, of n numbers, was lent and came back as y
 abbrev pub returned : ℕ → ℕ → List ℤ → List ℤ → List ℤ
@@ -41,6 +45,22 @@ three-parts t row L R t1 y1 t2 y2 k m lr lk ll lt e1 e2 e3 e4 =
     let right : y2 ≡ R ++ drop (k + m) t = e4 ∙ ap (λ (d : List ℤ). R ++ drop m d) all ∙ ap (λ (d : List ℤ). R ++ d) (drop-drop m k t) in
     let z : returned k (length t2 - k) t2 y2 ≡ (row ++ L) ++ ((R ++ drop (k + m) t) ++ []) = cc (upto, right, end) in
     z ∙ simp (append-nil, append-assoc)
+
+-- then the box, by the rows a and b that stand first in L and R
+pub boxed-parts : (t L R rest : List ℤ) (k : ℕ) (r a b : Row)
+    → width ≤ k → length L ≡ k - width
+    → t ≡ (numbers (unboxed r) ++ (L ++ R)) ++ rest
+    → rowAt (L ++ (R ++ rest)) 0 ≡ a → rowAt (R ++ rest) 0 ≡ b
+    → boxedBy k t ≡ (numbers (joined r a b) ++ (L ++ R)) ++ rest
+boxed-parts t L R rest k r a b lk ll e p q =
+    let row = numbers (unboxed r) in
+    let parts : t ≡ row ++ (L ++ (R ++ rest)) = e ∙ simp append-assoc in
+    let front : rowFrom 0 t ≡ unboxed r = ap (rowFrom 0) parts ∙ row-front (unboxed r) (L ++ (R ++ rest)) in
+    let past : drop width t ≡ L ++ (R ++ rest) = ap (drop width) parts in
+    let next : rowFrom width t ≡ a = ap (λ (l : List ℤ). rowAt l 0) past ∙ p in
+    let far : drop k t ≡ R ++ rest = ap (drop k) (parts ∙ sym (append-assoc row L (R ++ rest))) ∙ drop-at (row ++ L) (R ++ rest) k (omega arith) in
+    let right : rowFrom k t ≡ b = ap (λ (l : List ℤ). rowAt l 0) far ∙ q in
+    (λ d. numbers (joined (front d) (next d) (right d)) ++ past d) ∙ simp append-assoc
 
 -- ---------------- how many numbers the rows of two halves have
 

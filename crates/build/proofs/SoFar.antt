@@ -7,52 +7,30 @@ use mathlib.Core.List.{List}
 use Prim.Native.Nat.{ℕ, zero, suc, _+_, _-_, _≤_, _<_}
 use native.Mathlib.Nat.{zero-add, sub-zero}
 use native.Mathlib.Omega.{arith}
-use borrow.Author.Tests.{lt-ltb, le-ltb, eq-eqb, le-leb, lt-leb}
+use borrow.Author.Tests.{lt-ltb, le-ltb, eq-eqb}
 use lib.Dec.{ltb, eqb}
-use lib.IntN.{ℤ, pos, natAbs}
-use mir.Facts.{and-yes}
+use lib.IntN.{ℤ, natAbs}
 use Rattle.whole.specs.Laws.{cond-ind}
-use Rattle.whole.specs.Check.{con, _:*_, _:-_, _:=_, ring}
-use Rattle.whole.specs.Order.{eqZ, eqZ-yes}
-use Rattle.rules.specs.declared.Point.{Point}
-use Rattle.rules.specs.Plane.{samePoint, step, direction, cAt}
+use Rattle.rules.specs.Plane.{direction}
 use Rattle.rules.specs.Sheet.{point, segmentsOf}
-use Rattle.rules.specs.Tree.{nodeC, nodeT, least, greatest, height, offMiddle, better, best, splitOf, measured, isLeaf}
+use Rattle.rules.specs.Tree.{nodeC, nodeT, least, greatest, height, offMiddle, better, best, splitOf, measured}
 use Rattle.visits.proofs.Terms.{c-start, t-start}
 use Rattle.built.proofs.Rows.{≤-or->}
 use Rattle.build.specs.declared.run.Top.{Top}
 use Rattle.build.specs.declared.run.Measured.{Measured}
 use Rattle.build.specs.Run.{startOf, spanWith, measuredWith, measureOf}
-
--- ---------------- the ends of a run
-
--- c is 0 at the last point
-c-end : (s e : Point) → cAt s (direction s e) e ≡ pos 0
-unfolding direction
-c-end s e =
-    cond-ind (samePoint s e) (record { x = pos 1; y = pos 0 }) (step s e) (λ u. cAt s u e ≡ pos 0)
-    (λ t. level (eqZ-yes {a = s .y} {b = e .y} (and-yes (eqZ (s .x) (e .x)) (eqZ (s .y) (e .y)) t .1)))
-    (λ _. ring 4 (λ x y v w. (v :- x) :* (w :- y) :- (w :- y) :* (v :- x) := con (pos 0)) tt (s .x) (s .y) (e .x) (e .y))
-  where
-    level : s .y ≡ e .y → cAt s (record { x = pos 1; y = pos 0 }) e ≡ pos 0
-    level q =
-        ap (λ (y : ℤ). cAt s (record { x = pos 1; y = pos 0 }) (record { x = e .x; y = y })) (sym q)
-        ∙ ring 3 (λ x y v. con (pos 1) :* (y :- y) :- con (pos 0) :* (v :- x) := con (pos 0)) tt (s .x) (s .y) (e .x)
-
--- ---------------- so far
+use Rattle.build.proofs.Ends.{c-end}
 
 -- the best of the points 0 to i, the first point among them
 unfoldable pub topSoFar : List ℤ → ℕ → ℕ → ℕ
 topSoFar q last zero = 0
 topSoFar q last (suc i) = cond (better q 0 last (topSoFar q last i) (suc i)) (suc i) (topSoFar q last i)
 
--- strip and box of the points 0 to i, and the split s
+-- strip of the points 0 to i, and the split s
 abbrev upTo : List ℤ → ℕ → ℕ → ℕ → Measured
 upTo q last i s = record {
   c = record { lo = least (λ j. nodeC q 0 last (point q j)) 0 i; hi = greatest (λ j. nodeC q 0 last (point q j)) 0 i };
   t = record { lo = least (λ j. nodeT q 0 last (point q j)) 0 i; hi = greatest (λ j. nodeT q 0 last (point q j)) 0 i };
-  x = record { lo = least (λ j. point q j .x) 0 i; hi = greatest (λ j. point q j .x) 0 i };
-  y = record { lo = least (λ j. point q j .y) 0 i; hi = greatest (λ j. point q j .y) 0 i };
   top = record { split = s; height = height q 0 last s };
 }
 
@@ -79,20 +57,18 @@ module _ (q : List ℤ) (last : ℕ) where
       cond-ind (better q 0 last (topSoFar q last i) (suc i)) (suc i) (topSoFar q last i) (λ n. n ≤ suc i) (λ _. omega arith) (λ _. omega arith)
 
   -- the first point alone
-  pub so-far-start : soFar q last 0 ≡ startOf (point q 0)
+  pub so-far-start : soFar q last 0 ≡ startOf
   unfolding least greatest topSoFar
   so-far-start =
       let u = direction (point q 0) (point q last) in
       λ d. record {
         c = record { lo = c-start (point q 0) u d; hi = c-start (point q 0) u d };
         t = record { lo = t-start (point q 0) u d; hi = t-start (point q 0) u d };
-        x = record { lo = point q 0 .x; hi = point q 0 .x };
-        y = record { lo = point q 0 .y; hi = point q 0 .y };
         top = record { split = 0; height = height-start d };
       }
 
   -- one point more
-  pub so-far-more : (i : ℕ) → soFar q last (suc i) ≡ measuredWith (soFar q last i) (nodeC q 0 last (point q (suc i))) (nodeT q 0 last (point q (suc i))) last (suc i) (point q (suc i))
+  pub so-far-more : (i : ℕ) → soFar q last (suc i) ≡ measuredWith (soFar q last i) (nodeC q 0 last (point q (suc i))) (nodeT q 0 last (point q (suc i))) last (suc i)
   unfolding least greatest topSoFar better height
   so-far-more i =
       let j = zero-add (suc i) in
@@ -101,8 +77,6 @@ module _ (q : List ℤ) (last : ℕ) where
       λ d. record {
         c = spanWith (m .c) (nodeC q 0 last (point q (j d)));
         t = spanWith (m .t) (nodeT q 0 last (point q (j d)));
-        x = spanWith (m .x) (point q (j d) .x);
-        y = spanWith (m .y) (point q (j d) .y);
         top = e d;
       }
     where
@@ -150,30 +124,21 @@ module _ (q : List ℤ) (last : ℕ) where
       λ d. cond (better q 0 last (ih d) (j d)) (j d) (ih d)
 
   -- and at the last point it is the split of the run
-  top-all : (i : ℕ) → suc i ≡ last → topSoFar q last (suc i) ≡ cond (isLeaf 0 last) 0 (splitOf q 0 last)
+  top-all : (i : ℕ) → suc (suc i) ≡ last → topSoFar q last (suc (suc i)) ≡ splitOf q 0 last
   unfolding topSoFar splitOf
-  top-all i e = passed ∙ inner i e
-    where
-      passed : cond (better q 0 last (topSoFar q last i) (suc i)) (suc i) (topSoFar q last i) ≡ topSoFar q last i
-      passed =
-          ap (λ (b : Bool). cond b (suc i) (topSoFar q last i))
-          (ap (better q 0 last (topSoFar q last i)) e ∙ last-passed (topSoFar q last i) (omega (arith, top-below i)))
-
-      inner : (i : ℕ) → suc i ≡ last → topSoFar q last i ≡ cond (isLeaf 0 last) 0 (best q 0 last (last - 0 - 2))
-      inner zero e = sym (ap (λ (b : Bool). cond b 0 (best q 0 last (last - 0 - 2))) (le-leb last (0 + 1) (omega arith)))
-      inner (suc i) e =
-          let k : i ≡ last - 0 - 2 = omega arith in
-          inner-top i (omega arith) ∙ ap (best q 0 last) k
-          ∙ sym (ap (λ (b : Bool). cond b 0 (best q 0 last (last - 0 - 2))) (lt-leb last (0 + 1) (omega arith)))
+  top-all i e =
+      let s = topSoFar q last (suc i) in
+      let k : i ≡ last - 0 - 2 = omega arith in
+      ap (λ (b : Bool). cond b (suc (suc i)) s) (ap (better q 0 last s) e ∙ last-passed s (omega (arith, top-below (suc i))))
+      ∙ inner-top i (omega arith)
+      ∙ ap (best q 0 last) k
 
 -- what is measured so far at the last point is what is measured of the run
-pub so-far-all : (q : List ℤ) → 1 ≤ segmentsOf q → soFar q (segmentsOf q) (segmentsOf q) ≡ measureOf q
+pub so-far-all : (q : List ℤ) → 1 < segmentsOf q → soFar q (segmentsOf q) (segmentsOf q) ≡ measureOf q
 unfolding measured
-so-far-all q h = all (segmentsOf q) refl h
-  where
-    all : (last : ℕ) → segmentsOf q ≡ last → 1 ≤ last → soFar q (segmentsOf q) (segmentsOf q) ≡ measureOf q
-    all zero e k = absurd (omega arith)
-    all (suc i) e k =
-        let n = sym (sub-zero (segmentsOf q)) in
-        let s = ap (topSoFar q (segmentsOf q)) e ∙ top-all q (segmentsOf q) i (sym e) in
-        λ d. upTo q (segmentsOf q) (n d) (s d)
+so-far-all q h =
+    let i = segmentsOf q - 2 in
+    let e : suc (suc i) ≡ segmentsOf q = omega arith in
+    let n = sym (sub-zero (segmentsOf q)) in
+    let s = ap (topSoFar q (segmentsOf q)) (sym e) ∙ top-all q (segmentsOf q) i e in
+    λ d. upTo q (segmentsOf q) (n d) (s d)

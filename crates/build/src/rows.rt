@@ -1,13 +1,19 @@
 // The rows of a run of points, in preorder.
-use crate::run::Measured;
 use crate::run::measure;
+use line::greater;
+use line::lesser;
+use line::point_at;
+use line::size2;
+use line::step;
+use whole::wide;
 ghost use mathlib.Core.Path.{_≡_};
 ghost use mathlib.Core.List.{[], _∷_, _++_};
 ghost use Prim.Native.Nat.{ℕ, _+_, _*_, _-_, _<_, _≤_};
 ghost use lib.ListN.{length, drop};
-ghost use Rattle.rules.specs.Tree.{width, numbers, rowsOf, rowCount};
+ghost use Rattle.whole.specs.Order.{minZ, maxZ};
+ghost use Rattle.rules.specs.Tree.{splitOf, width, numbers, rowsOf, rowCount};
 ghost use Rattle.built.specs.RowRange.{AllFit};
-ghost use Rattle.build.specs.Run.{AllOnSheet, rowOf, nodeSplit, nodeRow};
+ghost use Rattle.build.specs.Run.{AllOnSheet, nodeRow, unboxed, boxedBy, setBy};
 
 // The numbers of a row.
 pub const WIDTH: usize = 11;
@@ -43,57 +49,101 @@ fn put_numbers(
     table[10] = ymax as i32;
 }
 
-// Writes the row of the run from first to last at the front of the table, by what is measured of the run.
-fn put_row(table: &mut [i32], first: usize, last: usize, split: i64, m: Measured)
-    requires { ⌜ (width ≤ length (now table)) × (last < 4097) × (first < last) × AllFit (numbers (rowOf first last split m)) ⌝ }
-    ensures { λ _. ⌜ now (table .exit) ≡ numbers (rowOf first last split m) ++ drop width (now (table .entry)) ⌝ }
+// Writes the row of the leaf from first to last: c is 0 at both points, t is 0 at the one and the step's square at the other.
+fn put_leaf(points: &[i32], first: usize, last: usize, table: &mut [i32])
+    requires { ⌜ (first < last) × (last ≤ first + 1) × (last < 4097) × (2 * last + 2 ≤ length (now points)) × AllOnSheet (now points) × (width ≤ length (now table)) ⌝ }
+    ensures { λ _. ⌜ now (table .exit) ≡ numbers (nodeRow (now (points .entry)) first last) ++ drop width (now (table .entry)) ⌝ }
 {
+    let a = point_at(points, first);
+    let b = point_at(points, last);
+    let xmin = lesser(a.x, b.x);
+    let xmax = greater(a.x, b.x);
+    let ymin = lesser(a.y, b.y);
+    let ymax = greater(a.y, b.y);
     put_numbers(
         table,
         first as i64,
         last as i64,
-        split,
-        m.c.lo,
-        m.c.hi,
-        m.t.lo,
-        m.t.hi,
-        m.x.lo,
-        m.x.hi,
-        m.y.lo,
-        m.y.hi,
+        -1,
+        0,
+        0,
+        0,
+        size2(step(a, b)),
+        xmin,
+        xmax,
+        ymin,
+        ymax,
     );
 }
 
-// Writes the row of the node that covers the points first to last at the front of the table, and gives the split point, or
-// first for a leaf. The run of the node's points is handed on as a part that starts in the middle of the line.
-fn put_node(points: &[i32], first: usize, last: usize, table: &mut [i32]) -> usize
-    requires { ⌜ (first < last) × (last < 4097) × (2 * last + 2 ≤ length (now points)) × AllOnSheet (now points) × (width ≤ length (now table)) ⌝ }
-    ensures { λ r. ⌜ r ≡ nodeSplit (now (points .entry)) first last ⌝ }
-    ensures { λ _. ⌜ now (table .exit) ≡ numbers (nodeRow (now (points .entry)) first last) ++ drop width (now (table .entry)) ⌝ }
+// Writes the row of a node with an inner point, but for its box, and gives the split point. The run of the node's points is
+// handed on as a part that starts in the middle of the line.
+fn put_strip(points: &[i32], first: usize, last: usize, table: &mut [i32]) -> usize
+    requires { ⌜ (first + 1 < last) × (last < 4097) × (2 * last + 2 ≤ length (now points)) × AllOnSheet (now points) × (width ≤ length (now table)) ⌝ }
+    ensures { λ r. ⌜ r ≡ splitOf (now (points .entry)) first last ⌝ }
+    ensures { λ _. ⌜ now (table .exit) ≡ numbers (unboxed (nodeRow (now (points .entry)) first last)) ++ drop width (now (table .entry)) ⌝ }
 {
     let from = 2 * first;
     let to = 2 * last + 2;
     let m = measure(&points[from..to]);
-    if first + 1 < last {
-        let split = first + m.top.split;
-        put_row(table, first, last, split as i64, m);
-        return split;
-    }
-    put_row(table, first, last, -1, m);
-    first
+    let split = first + m.top.split;
+    put_numbers(
+        table,
+        first as i64,
+        last as i64,
+        split as i64,
+        m.c.lo,
+        m.c.hi,
+        m.t.lo,
+        m.t.hi,
+        0,
+        0,
+        0,
+        0,
+    );
+    split
+}
+
+// Writes number k of the front row: the lesser of number k of its halves' rows, which stand next and at right.
+fn put_lesser(table: &mut [i32], right: usize, k: usize)
+    requires { ⌜ (k < width) × (width ≤ right) × (right + width ≤ length (now table)) ⌝ }
+    ensures { λ _. ⌜ now (table .exit) ≡ setBy minZ right k (now (table .entry)) ⌝ }
+{
+    table[k] = lesser(wide(table[WIDTH + k]), wide(table[right + k])) as i32;
+}
+
+// Writes number k of the front row: the greater.
+fn put_greater(table: &mut [i32], right: usize, k: usize)
+    requires { ⌜ (k < width) × (width ≤ right) × (right + width ≤ length (now table)) ⌝ }
+    ensures { λ _. ⌜ now (table .exit) ≡ setBy maxZ right k (now (table .entry)) ⌝ }
+{
+    table[k] = greater(wide(table[WIDTH + k]), wide(table[right + k])) as i32;
+}
+
+// Writes the box of the front row: that of its halves, so that no point is read again for it.
+fn put_box(table: &mut [i32], right: usize)
+    requires { ⌜ (width ≤ right) × (right + width ≤ length (now table)) ⌝ }
+    ensures { λ _. ⌜ now (table .exit) ≡ boxedBy right (now (table .entry)) ⌝ }
+{
+    put_lesser(table, right, 7);
+    put_greater(table, right, 8);
+    put_lesser(table, right, 9);
+    put_greater(table, right, 10);
 }
 
 // Writes the rows of the node that covers the points first to last at the front of the table: its own, and then those of its
-// halves, which share the split point.
+// halves, which share the split point and give it its box.
 pub fn build_node(points: &[i32], first: usize, last: usize, table: &mut [i32])
     requires { ⌜ (first < last) × (last < 4097) × (2 * last + 2 ≤ length (now points)) × AllOnSheet (now points) × (2 * width * last ≤ length (now table) + 2 * width * first + width) ⌝ }
     ensures { λ _. ⌜ ((f : ℕ) → last ≤ f + first → now (table .exit) ≡ rowsOf f (now (points .entry)) first last ++ drop (width * rowCount (last - first)) (now (table .entry))) ⌝ }
 {
-    let split = put_node(points, first, last, table);
     if last <= first + 1 {
+        put_leaf(points, first, last, table);
         return;
     }
+    let split = put_strip(points, first, last, table);
     let right = WIDTH * (2 * (split - first));
     build_node(points, first, split, &mut table[WIDTH..right]);
     build_node(points, split, last, &mut table[right..]);
+    put_box(table, right);
 }

@@ -1,4 +1,4 @@
-// A run of points, handed on by itself: its extents and its split point, found in one pass.
+// A run of points, handed on by itself: its strip and its split point, found in one pass.
 use line::c_at;
 use line::direction;
 use line::greater;
@@ -12,7 +12,6 @@ ghost use lib.IntN.{natAbs};
 ghost use Rattle.whole.specs.Range.{Abs≤};
 ghost use Rattle.rules.specs.Plane.{cAt, tAt};
 ghost use Rattle.rules.specs.Sheet.{segmentsOf};
-ghost use Rattle.rules.specs.Tree.{offMiddle};
 ghost use Rattle.visits.specs.Small.{OnSheet, Small, widest};
 ghost use Rattle.build.specs.Run.{AllOnSheet, spanOf, spanWith, topWith, startOf, measuredWith, measureOf};
 
@@ -28,12 +27,10 @@ pub struct Top {
     pub height: usize,
 }
 
-// What is measured of a run: its strip, its box and its split point, which is counted from the run's first point.
+// What is measured of a run: its strip and its split point, which is counted from the run's first point.
 pub struct Measured {
     pub c: Span,
     pub t: Span,
-    pub x: Span,
-    pub y: Span,
     pub top: Top,
 }
 
@@ -65,21 +62,11 @@ fn height(c: i64) -> usize
     c as usize
 }
 
-// |2i - last|.
-fn off_middle(last: usize, i: usize) -> usize
-    requires { ⌜ (i ≤ last) × (last < 4097) ⌝ }
-    ensures { λ r. ⌜ r ≡ offMiddle 0 last i ⌝ }
-{
-    if 2 * i < last {
-        return last - 2 * i;
-    }
-    2 * i - last
-}
-
 impl Top {
-    // The top, or point i, which is above it, where that is better.
+    // The top, or point i, which is above it, where that is better. Of two points, the later is nearer to the middle exactly
+    // when they add up to less than last.
     fn with(self, last: usize, i: usize, height: usize) -> Top
-        requires { ⌜ (self .split ≤ last) × (i ≤ last) × (last < 4097) ⌝ }
+        requires { ⌜ (self .split < i) × (i ≤ last) × (last < 4097) ⌝ }
         ensures { λ r. ⌜ r ≡ topWith last self i height ⌝ }
     {
         let top = self.height;
@@ -89,7 +76,7 @@ impl Top {
         if height < top {
             return self;
         }
-        if off_middle(last, i) < off_middle(last, self.split) {
+        if i + self.split < last {
             return Top { split: i, height };
         }
         self
@@ -98,14 +85,12 @@ impl Top {
 
 impl Measured {
     // The first point alone.
-    fn start(s: Point) -> Measured
-        ensures { λ r. ⌜ r ≡ startOf s ⌝ }
+    fn start() -> Measured
+        ensures { λ r. ⌜ r ≡ startOf ⌝ }
     {
         Measured {
             c: Span::of(0),
             t: Span::of(0),
-            x: Span::of(s.x),
-            y: Span::of(s.y),
             top: Top {
                 split: 0,
                 height: 0,
@@ -115,29 +100,28 @@ impl Measured {
 
     // One point more: point i of a run to point last, with s and u.
     fn with(self, s: Point, u: Point, last: usize, i: usize, p: Point) -> Measured
-        requires { ⌜ OnSheet s × Small u × OnSheet p × (self .top .split ≤ last) × (i ≤ last) × (last < 4097) ⌝ }
-        ensures { λ r. ⌜ r ≡ measuredWith self (cAt s u p) (tAt s u p) last i p ⌝ }
+        requires { ⌜ OnSheet s × Small u × OnSheet p × (self .top .split < i) × (i ≤ last) × (last < 4097) ⌝ }
+        ensures { λ r. ⌜ r ≡ measuredWith self (cAt s u p) (tAt s u p) last i ⌝ }
     {
         let c = c_at(s, u, p);
         let t = t_at(s, u, p);
         Measured {
             c: self.c.with(c),
             t: self.t.with(t),
-            x: self.x.with(p.x),
-            y: self.y.with(p.y),
             top: self.top.with(last, i, height(c)),
         }
     }
 }
 
+// A run with an inner point.
 pub fn measure(run: &[i32]) -> Measured
-    requires { ⌜ AllOnSheet (now run) × (1 ≤ segmentsOf (now run)) × (segmentsOf (now run) < 4097) ⌝ }
+    requires { ⌜ AllOnSheet (now run) × (1 < segmentsOf (now run)) × (segmentsOf (now run) < 4097) ⌝ }
     ensures { λ r. ⌜ r ≡ measureOf (now (run .entry)) ⌝ }
 {
     let last = run.len() / 2 - 1;
     let s = point_at(run, 0);
     let u = direction(s, point_at(run, last));
-    let mut m = Measured::start(s);
+    let mut m = Measured::start();
     let mut i: usize = 0;
     while i < last {
         i += 1;

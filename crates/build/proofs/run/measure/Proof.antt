@@ -1,20 +1,16 @@
 -- `measure` goes from the first point to the last; what it has found at point i is what is measured so far.
 use mathlib.Core.Path.{_≡_, sym, ap, subst, _∙_}
-use mathlib.Core.List.{List}
-use Prim.Native.Nat.{ℕ, _+_, _-_, _≤_, _<_}
+use Prim.Native.Nat.{_+_, _-_, _≤_}
 use native.Mathlib.Numerals.{add-one}
 use native.Mathlib.Omega.{arith}
-use lib.IntN.{ℤ}
-use Rattle.whole.specs.Order.{T-true}
-use Rattle.rules.specs.declared.Point.{Point}
 use Rattle.rules.specs.Plane.{direction, cAt, tAt}
-use Rattle.rules.specs.Sheet.{point, pointsOf, segmentsOf}
+use Rattle.rules.specs.Sheet.{point, segmentsOf}
 use Rattle.rules.specs.Tree.{nodeC, nodeT}
-use Rattle.visits.specs.Small.{OnSheet, Small}
-use Rattle.visits.proofs.OnSheets.{on-sheet}
+use Rattle.visits.specs.Small.{Small}
 use Rattle.visits.proofs.Sizes.{direction-small}
 use Rattle.build.specs.declared.run.Measured.{Measured}
-use Rattle.build.specs.Run.{AllOnSheet, startOf, measuredWith}
+use Rattle.build.specs.Run.{measuredWith}
+use Rattle.build.proofs.Points.{read-on}
 use Rattle.build.proofs.SoFar.{soFar, top-below, so-far-start, so-far-more, so-far-all}
 use Rattle.build.proofs.run.measure.Statement.{statement}
 use Rattle.build.proofs.run.measure.Tie as tie
@@ -24,10 +20,6 @@ Inv-loop run last s u m₀ i₀ m i = (i ≤ last) × (m ≡ soFar run last i)
 
 abbrev μ-loop : tie.MeasureT-loop
 μ-loop run last s u m₀ i₀ m i = last - i
-
--- a point that is read is on the sheet
-read-on : (q : List ℤ) → AllOnSheet q → (i : ℕ) → i < pointsOf q → {p : Point} → p ≡ point q i → OnSheet p
-read-on q h i l e = subst OnSheet (sym e) (on-sheet (point q i) (T-true (h i l)))
 
 sub-last : tie.Need-sub-last Inv-loop μ-loop
 sub-last c = omega arith
@@ -50,7 +42,7 @@ start-requires c κs = tt
 loop-holds : tie.Need-loop-holds Inv-loop μ-loop
 loop-holds c =
     let q = c .before .before .before .before .args .run .now in
-    (omega arith, c .start .ensures ∙ ap startOf (c .before .before .before .point-at .ensures) ∙ sym (so-far-start q (segmentsOf q)))
+    (omega arith, c .start .ensures ∙ sym (so-far-start q (segmentsOf q)))
 
 add-i : tie.Need-add-i Inv-loop μ-loop
 add-i c = omega arith
@@ -89,8 +81,8 @@ loop-again c =
     let n = add-one i in (
       omega arith,
       c .with .ensures
-          ∙ (λ d. measuredWith (m d) (cAt (s d) (u d) (p d)) (tAt (s d) (u d) (p d)) (segmentsOf q) (i + 1) (p d))
-          ∙ (λ d. measuredWith (soFar q (segmentsOf q) i) (nodeC q 0 (segmentsOf q) (point q (n d))) (nodeT q 0 (segmentsOf q) (point q (n d))) (segmentsOf q) (n d) (point q (n d)))
+          ∙ (λ d. measuredWith (m d) (cAt (s d) (u d) (p d)) (tAt (s d) (u d) (p d)) (segmentsOf q) (i + 1))
+          ∙ (λ d. measuredWith (soFar q (segmentsOf q) i) (nodeC q 0 (segmentsOf q) (point q (n d))) (nodeT q 0 (segmentsOf q) (point q (n d))) (segmentsOf q) (n d))
           ∙ sym (so-far-more q (segmentsOf q) i)
           ∙ ap (soFar q (segmentsOf q)) (sym n),
     )

@@ -2,8 +2,6 @@
 use mathlib.Core.Path.{sym, _∙_}
 use lib.IntN.{natAbs}
 use mir.Syntax.{w64}
-use mir.Val.{SFits}
-use mir.Facts.{toZ-ofZ}
 use Rattle.whole.specs.Range.{abs-at}
 use Rattle.whole.specs.Machine.{result}
 use Rattle.visits.proofs.Sizes.{c-wide}
@@ -24,37 +22,27 @@ with-requires c κs = search needs
 with-requires-2 : tie.Need-with-requires-2
 with-requires-2 c κs = search needs
 
+height-requires : tie.Need-height-requires
+height-requires c κs =
+    let s = c .before .before .before .before in
+    let call = c .before .before .before .c-at in
+    abs-at (sym (result w64 (call .ok) (call .ensures))) (c-wide (s .pre .0) (s .pre .1) (s .pre .2))
+
 with-requires-3 : tie.Need-with-requires-3
 with-requires-3 c κs = search needs
 
-with-requires-4 : tie.Need-with-requires-4
-with-requires-4 c κs = search needs
-
-height-requires : tie.Need-height-requires
-height-requires c κs =
-    let s = c .before .before .before .before .before .before .before .before in
-    let call = c .before .before .before .before .before .before .before .c-at in
-    abs-at (sym (result w64 (call .ok) (call .ensures))) (c-wide (s .pre .0) (s .pre .1) (s .pre .2))
-
-with-requires-5 : tie.Need-with-requires-5
-with-requires-5 c κs = search needs
-
 returns : tie.Need-returns
 returns c =
-    let a = c .before .before .before .before .before .before .before .before .before .before .args in
-    let x : SFits w64 (a .p .x) = search needs in
-    let y : SFits w64 (a .p .y) = search needs in
-    let at-c = c .before .before .before .before .before .before .before .before .before .c-at in
-    let at-t = c .before .before .before .before .before .before .before .before .t-at in
+    let a = c .before .before .before .before .before .before .args in
+    let at-c = c .before .before .before .before .before .c-at in
+    let at-t = c .before .before .before .before .t-at in
     let c-read = result w64 (at-c .ok) (at-c .ensures) in
     let t-read = result w64 (at-t .ok) (at-t .ensures) in
-    let e = c .before .before .before .before .before .before .before .with .ensures ∙ (λ d. spanWith (a .self .c) (c-read d)) in
-    let f = c .before .before .before .before .before .before .with2 .ensures ∙ (λ d. spanWith (a .self .t) (t-read d)) in
-    let g = c .before .before .before .before .with3 .ensures ∙ (λ d. spanWith (a .self .x) (toZ-ofZ x d)) in
-    let h = c .before .before .with4 .ensures ∙ (λ d. spanWith (a .self .y) (toZ-ofZ y d)) in
+    let e = c .before .before .before .with .ensures ∙ (λ d. spanWith (a .self .c) (c-read d)) in
+    let f = c .before .before .with2 .ensures ∙ (λ d. spanWith (a .self .t) (t-read d)) in
     let tall = c .before .height .ensures ∙ (λ d. natAbs (c-read d)) in
-    let top = c .with5 .ensures ∙ (λ d. topWith (a .last) (a .self .top) (a .i) (tall d)) in
-    λ d. record { c = e d; t = f d; x = g d; y = h d; top = top d }
+    let top = c .with3 .ensures ∙ (λ d. topWith (a .last) (a .self .top) (a .i) (tall d)) in
+    λ d. record { c = e d; t = f d; top = top d }
 
 pub with-spec : {M : Type 1} → statement M
 with-spec =
@@ -64,8 +52,6 @@ with-spec =
     t-at-requires
     with-requires
     with-requires-2
-    with-requires-3
-    with-requires-4
     height-requires
-    with-requires-5
+    with-requires-3
     returns)

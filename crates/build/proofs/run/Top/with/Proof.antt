@@ -1,5 +1,6 @@
--- `with` asks the tests of the definition in its order.
-use mathlib.Core.Path.{_≡_, sym, _∙_}
+-- `with` asks the tests of the definition in its order. Of two points, the later is nearer to the middle exactly when they
+-- add up to less than last.
+use mathlib.Core.Path.{_≡_, sym}
 use mathlib.Core.Bool.{Bool, true, false, cond, _&&_, _||_}
 use Prim.Native.Nat.{ℕ}
 use native.Mathlib.Omega.{arith}
@@ -37,31 +38,24 @@ returns-2 c =
     let e = ne-eqb (a .self .height) (a .height) (omega arith) in
     kept (a .last) (a .self) (a .i) (a .height) (λ d. l d || (e d && nearer (a .last) (a .self) (a .i) (a .height)))
 
-off-middle-requires : tie.Need-off-middle-requires
-off-middle-requires c κs = search needs
-
-off-middle-requires-2 : tie.Need-off-middle-requires-2
-off-middle-requires-2 c κs = search needs
+add-if3 : tie.Need-add-if3
+add-if3 c = search needs
 
 returns-3 : tie.Need-returns-3
 returns-3 c =
-    let a = c .before .before .before .before .before .args in
-    let i = c .before .before .off-middle .ensures in
-    let s = c .before .off-middle2 .ensures in
-    let l = le-ltb (a .self .height) (a .height) (c .before .before .before .before .if1 .left) in
+    let a = c .before .before .before .before .args in
+    let l = le-ltb (a .self .height) (a .height) (c .before .before .before .if1 .left) in
     let e = eq-eqb (a .self .height) (a .height) (omega arith) in
-    let o = sym (λ d. ltb (i d) (s d)) ∙ lt-ltb _ _ (c .if3 .taken) in
+    let o = lt-ltb (offMiddle 0 (a .last) (a .i)) (offMiddle 0 (a .last) (a .self .split)) (omega arith) in
     taken (a .last) (a .self) (a .i) (a .height) (λ d. l d || (e d && o d))
 
 returns-4 : tie.Need-returns-4
 returns-4 c =
-    let a = c .before .before .before .before .before .args in
-    let i = c .before .before .off-middle .ensures in
-    let s = c .before .off-middle2 .ensures in
-    let l = le-ltb (a .self .height) (a .height) (c .before .before .before .before .if1 .left) in
+    let a = c .before .before .before .before .args in
+    let l = le-ltb (a .self .height) (a .height) (c .before .before .before .if1 .left) in
     let e = eq-eqb (a .self .height) (a .height) (omega arith) in
-    let o = sym (λ d. ltb (i d) (s d)) ∙ le-ltb _ _ (c .if3 .left) in
+    let o = le-ltb (offMiddle 0 (a .last) (a .i)) (offMiddle 0 (a .last) (a .self .split)) (omega arith) in
     kept (a .last) (a .self) (a .i) (a .height) (λ d. l d || (e d && o d))
 
 pub with-spec : {M : Type 1} → statement M
-with-spec = tie.close (tie.spec returns returns-2 off-middle-requires off-middle-requires-2 returns-3 returns-4)
+with-spec = tie.close (tie.spec returns returns-2 add-if3 returns-3 returns-4)
