@@ -58,12 +58,12 @@ fn ask_all(
     ensures { λ r. ⌜ ((line other : Line) → asked line other (r .at) allowance (r .came) ≡ askAll line (now (points .entry)) other (now (theirs .entry)) (now (table .entry)) d 0 (pointsOf (now (points .entry))) (record { allowance = allowance; visits = visits })) ⌝ }
 {
     let count = points.len() / 2;
-    let mut came = row::came(visits, 2);
+    let mut came = row::came(visits, row::ENDED);
     let mut i = 0;
     while i < count {
         let made = row::visits_in(came);
         came = ask_point(points, i, theirs, table, d, allowance, made);
-        if row::end_in(came) != 2 {
+        if row::end_in(came) != row::ENDED {
             return Stopped { at: i, came };
         }
         i += 1;
@@ -79,17 +79,17 @@ fn agreement(line: Line, other: Line, stopped: Stopped, allowance: u32) -> Agree
     let came = stopped.came;
     let end = row::end_in(came);
     let visits = row::visits_in(came);
-    if end < 2 {
+    if end < row::ENDED {
         return Agreement::No {
             line,
             point: at,
             visits,
         };
     }
-    if end == 2 {
+    if end == row::ENDED {
         return Agreement::Yes(visits);
     }
-    if end == 3 {
+    if end == row::SPENT {
         return Agreement::Undecided(allowance);
     }
     if end == OFF {
@@ -126,7 +126,7 @@ pub fn agree(
         return Agreement::Refused(line::early(7, Line::NoLine));
     }
     let a = ask_all(points_a, points_b, table_b, distance, allowance, 0);
-    if row::end_in(a.came) != 2 {
+    if row::end_in(a.came) != row::ENDED {
         return agreement(Line::LineA, Line::LineB, a, allowance);
     }
     let visits = row::visits_in(a.came);

@@ -188,9 +188,9 @@ fn over(visits: u32, odd: bool) -> u64
     ensures { λ r. ⌜ ((allowance : ℕ) → cameTo false true Line.LineA Line.LineA allowance r ≡ over odd (record { allowance = allowance; visits = visits })) ⌝ }
 {
     if odd {
-        return row::came(visits, 1);
+        return row::came(visits, row::ODD);
     }
-    row::came(visits, 0)
+    row::came(visits, row::EVEN)
 }
 
 // The walk of a node: the left half, then the right half, with the count handed on. Plain numbers and thin references go
@@ -210,12 +210,12 @@ fn walk(
     ensures { λ r. ⌜ ((f : ℕ) → last ≤ f + first → cameTo false true Line.LineA Line.LineA (tally .allowance) r ≡ walk (inVisit (now (now (points .entry))) (now (now (table .entry))) (record { x = x; y = y })) f (record { row = row; first = first; last = last }) odd tally) ⌝ }
 {
     let Next::Left(counted) = tally.visit() else {
-        return row::came(tally.visits, 3);
+        return row::came(0, row::SPENT);
     };
     let made = counted.visits;
     match visit(*points, *table, Node { row, first, last }, Point { x, y }) {
         Step::Bad => row::bad_row(made, row),
-        Step::Finish => row::came(made, 2),
+        Step::Finish => row::came(made, row::ENDED),
         Step::Pass(crossed) => over(made, add(odd, crossed)),
         Step::Halve(mid) => {
             let next = row + 1;
@@ -224,7 +224,7 @@ fn walk(
                 return left;
             }
             let right = row + 2 * (mid - first);
-            let odd = row::end_in(left) == 1;
+            let odd = row::end_in(left) == row::ODD;
             let after = row::tally_in(counted.allowance, left);
             walk(points, table, right, mid, last, x, y, odd, after)
         }
@@ -249,16 +249,16 @@ fn side_of_ring(came: u64, allowance: u32) -> Side
 {
     let end = row::end_in(came);
     let visits = row::visits_in(came);
-    if end == 0 {
+    if end == row::EVEN {
         return Side::Outside(visits);
     }
-    if end == 1 {
+    if end == row::ODD {
         return Side::Inside(visits);
     }
-    if end == 2 {
+    if end == row::ENDED {
         return Side::OnEdge(visits);
     }
-    if end == 3 {
+    if end == row::SPENT {
         return Side::Undecided(allowance);
     }
     Side::Refused(row::refusal(Line::LineA, Line::LineA, came))

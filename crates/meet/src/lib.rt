@@ -7,6 +7,9 @@ use line::Checked;
 use line::check_lengths;
 use line::direction;
 use line::point_at;
+use row::ENDED;
+use row::EVEN;
+use row::SPENT;
 use row::answer;
 use row::bad_row;
 use row::bad_second;
@@ -161,14 +164,14 @@ fn walk(
     ensures { λ r. ⌜ ((f : ℕ) → segments (pairOf p i j q k l) ≤ f → cameTo tt tt Line.LineA Line.LineB (tally .allowance) r ≡ walk (meetVisit (now (now (a .entry))) (now (now (ta .entry))) (now (now (b .entry))) (now (now (tb .entry)))) f (pairOf p i j q k l) tt tally) ⌝ }
 {
     let Next::Left(counted) = tally.visit() else {
-        return came(tally.visits, 3);
+        return came(0, SPENT);
     };
     let made = counted.visits;
     match visit(*a, *ta, *b, *tb, pair_of(p, i, j, q, k, l)) {
         Step::BadA => bad_row(made, p),
         Step::BadB => bad_second(made, q),
-        Step::Finish => came(made, 2),
-        Step::Pass => came(made, 0),
+        Step::Finish => came(made, ENDED),
+        Step::Pass => came(made, EVEN),
         Step::HalveA(split) => {
             let left = walk(a, ta, b, tb, p + 1, i, split, q, k, l, counted);
             if stopped(left) {

@@ -133,14 +133,14 @@ fn walk(
     ensures { λ r. ⌜ ((l m : Line) (f : ℕ) → last ≤ f + first → cameTo tt tt l m (tally .allowance) r ≡ walk (nearVisit l (now (now (points .entry))) (now (now (table .entry))) (record { x = x; y = y }) d) f (record { row = row; first = first; last = last }) tt tally) ⌝ }
 {
     let Next::Left(counted) = tally.visit() else {
-        return row::came(tally.visits, 3);
+        return row::came(0, row::SPENT);
     };
     let made = counted.visits;
     let node = Node { row, first, last };
     match visit(*points, *table, node, Point { x, y }, d) {
         Visited::Bad => row::bad_row(made, row),
-        Visited::Finish => row::came(made, 2),
-        Visited::Pass => row::came(made, 0),
+        Visited::Finish => row::came(made, row::ENDED),
+        Visited::Pass => row::came(made, row::EVEN),
         Visited::Halve(split) => {
             let low = row + 1;
             let high = row + 2 * (split - first);

@@ -52,13 +52,6 @@ fn range_good(r: Row, first: usize, last: usize) -> bool
     r.first == first as i64 && r.last == last as i64
 }
 
-// A leaf has no split, and its ends differ.
-fn leaf_good(r: Row, a: Point, b: Point) -> bool
-    ensures { λ g. ⌜ g ≡ eqZ (r .split) noSplit && not (samePoint a b) ⌝ }
-{
-    r.split == -1 && !same_point(a, b)
-}
-
 // A node of more segments splits strictly inside its range.
 fn splits_inside(r: Row, first: usize, last: usize) -> bool
     requires { ⌜ (first < last) × (last < 4097) ⌝ }
@@ -103,6 +96,8 @@ pub fn row_good(points: &[i32], r: Row, first: usize, last: usize) -> bool
     requires { ⌜ (first < last) × (last < 4097) × (2 * last + 1 < length (now points)) ⌝ }
     ensures { λ g. ⌜ g ≡ good (now (points .entry)) r first last ⌝ }
 {
+    let a = point_at(points, first);
+    let b = point_at(points, last);
     if !range_good(r, first, last) {
         return false;
     }
@@ -112,16 +107,14 @@ pub fn row_good(points: &[i32], r: Row, first: usize, last: usize) -> bool
     if !box_good(r) {
         return false;
     }
-    let a = point_at(points, first);
     if !on_sheet(a) {
         return false;
     }
-    let b = point_at(points, last);
     if !on_sheet(b) {
         return false;
     }
     if last <= first + 1 {
-        return leaf_good(r, a, b);
+        return r.split == -1 && !same_point(a, b);
     }
     splits_inside(r, first, last)
 }
@@ -133,6 +126,20 @@ pub fn split_of(r: Row) -> usize
 {
     r.split as usize
 }
+
+// How a walk ended: over with an even or an odd count, a yes or on-edge, no visit left, and from here on a bad row of the
+// first line, or of the second.
+pub const EVEN: u32 = 0;
+
+pub const ODD: u32 = 1;
+
+pub const ENDED: u32 = 2;
+
+pub const SPENT: u32 = 3;
+
+const BAD_ROW: u32 = 4;
+
+const BAD_SECOND: u32 = 65536;
 
 // How a walk came to its end is one number, which a walk hands back in a register: the visits made, times 2^32, and how it
 // ended below them.
@@ -169,21 +176,21 @@ pub fn bad_row(visits: u32, row: usize) -> u64
     requires { ⌜ row < 8193 ⌝ }
     ensures { λ r. ⌜ r ≡ came visits (badRow + row) ⌝ }
 {
-    came(visits, 4 + row as u32)
+    came(visits, BAD_ROW + row as u32)
 }
 
 pub fn bad_second(visits: u32, row: usize) -> u64
     requires { ⌜ row < 8193 ⌝ }
     ensures { λ r. ⌜ r ≡ came visits (badSecond + row) ⌝ }
 {
-    came(visits, 65536 + row as u32)
+    came(visits, BAD_SECOND + row as u32)
 }
 
 // Whether the walk stopped, and nothing is left to visit.
 pub fn stopped(came: u64) -> bool
     ensures { λ r. ⌜ r ≡ leb ENDED (endIn came) ⌝ }
 {
-    2 <= end_in(came)
+    ENDED <= end_in(came)
 }
 
 // Refusal 10, at a row of the first line or of the second.
@@ -193,18 +200,18 @@ pub fn refusal(first: Line, second: Line, came: u64) -> Refusal
 {
     let end = end_in(came);
     let visits = visits_in(came);
-    if end < 65536 {
+    if end < BAD_SECOND {
         return Refusal {
             number: 10,
             line: first,
-            place: (end - 4) as usize,
+            place: (end - BAD_ROW) as usize,
             visits,
         };
     }
     Refusal {
         number: 10,
         line: second,
-        place: (end - 65536) as usize,
+        place: (end - BAD_SECOND) as usize,
         visits,
     }
 }
@@ -214,13 +221,13 @@ pub fn answer(came: u64, allowance: u32) -> Answer
     ensures { λ r. ⌜ answerReply r ≡ yesOrNo allowance (cameTo tt tt Line.LineA Line.LineB allowance came) ⌝ }
 {
     let end = end_in(came);
-    if end < 2 {
+    if end < ENDED {
         return Answer::No(visits_in(came));
     }
-    if end == 2 {
+    if end == ENDED {
         return Answer::Yes(visits_in(came));
     }
-    if end == 3 {
+    if end == SPENT {
         return Answer::Undecided(allowance);
     }
     Answer::Refused(refusal(Line::LineA, Line::LineB, came))

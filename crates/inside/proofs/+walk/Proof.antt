@@ -13,7 +13,6 @@ use Rattle.rules.specs.declared.Next.the-variants.{Left, Spent}
 use Rattle.rules.specs.Walk.{next, Visit, Walked, ended, over, goOn}
 use Rattle.rules.specs.Walk.{walk as writtenWalk}
 use Rattle.rules.specs.Questions.{leftOf, rightOf, inVisit}
-use Rattle.visits.specs.Small.{OnSheet}
 use Rattle.visits.proofs.Levels.{none-left, visited, halved}
 use Rattle.row.specs.Came.{endIn, ENDED, tallyIn, cameTo}
 use Rattle.row.proofs.Ends.{reads-ended, reads-spent, reads-bad, stops, goes, keeps}
@@ -159,7 +158,7 @@ module _ (t : ℕ) where
       let s = c .before .before .before .before in
       let e : next (s .args .tally) ≡ Spent = cc in
       ap (read s) (c .came .ensures)
-      ∙ reads-spent false true LineA LineA _ (s .args .tally .visits)
+      ∙ reads-spent false true LineA LineA _ 0
       ∙ none-left (does s) (node s) (s .args .odd) (s .args .tally) f (some-level s f h) e
 
   visit-requires-2 : walk-lts.Need-visit-requires-2 (claims t) (walk-at t) walk.Post

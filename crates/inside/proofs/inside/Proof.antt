@@ -1,6 +1,6 @@
 -- `inside` asks in the order of the checks; then the walk from the root stands in its line and its table.
 -- The points and the table are lent to the walk, so that the places of the code have them as t1 and t2.
-use mathlib.Core.Path.{_≡_, refl, sym, _∙_, ap, subst}
+use mathlib.Core.Path.{_≡_, refl, sym, _∙_, ap}
 use mathlib.Core.Bool.{true, false}
 use mathlib.Core.Option.{none}
 use native.Mathlib.Omega.{arith}

@@ -203,7 +203,7 @@ module _ (t : ℕ) where
       let s = c .before .before .before .before in
       let e : next (s .args .tally) ≡ Spent = cc in
       ap (said s) (c .came .ensures)
-      ∙ reads-spent tt tt LineA LineB (s .args .tally .allowance) (s .args .tally .visits)
+      ∙ reads-spent tt tt LineA LineB (s .args .tally .allowance) 0
       ∙ none-left (does s) (pair s) tt (s .args .tally) f (some s f h) e
 
   pair-of-requires : walk-lts.Need-pair-of-requires (claims t) (walk-at t) walk.Post

@@ -147,7 +147,7 @@ module _ (t : ℕ) where
       let s = c .before .before .before .before in
       let e : next (s .args .tally) ≡ Spent = cc in
       ap (comes s l m) (c .came .ensures)
-      ∙ reads-spent tt tt l m (s .args .tally .allowance) (s .args .tally .visits)
+      ∙ reads-spent tt tt l m (s .args .tally .allowance) 0
       ∙ none-left (does s l) (node s) tt (s .args .tally) f (some-level s h) e
 
   visit-requires-2 : walk-lts.Need-visit-requires-2 (claims t) (walk-at t) walk.Post

@@ -1,12 +1,10 @@
 -- `refusal` goes by the same comparison as the definition.
 use mathlib.Core.Path.{_≡_, sym, _∙_, ap}
-use mathlib.Core.Bool.{Bool, true, false, cond}
-use Prim.Native.Nat.{ℕ, _-_}
-use native.Mathlib.Omega.{arith}
+use mathlib.Core.Bool.{true, false, cond}
+use Prim.Native.Nat.{_-_}
 use borrow.Author.Needs.{needs}
 use borrow.Author.Tests.{lt-ltb, le-ltb}
 use lib.Dec.{ltb}
-use Rattle.rules.specs.declared.Refusal.{Refusal}
 use Rattle.row.specs.Came.{visitsIn, endIn, badRow, badSecond, refusalAt}
 use Rattle.row.proofs.refusal.Statement.{statement}
 use Rattle.row.proofs.refusal.Tie as tie

@@ -6,7 +6,7 @@ use lib.Signed.{leZ, _≤ℤ_, _<ℤ_}
 use mir.Syntax.{w64}
 use mir.Facts.{toZ-ofZ}
 use Rattle.whole.specs.Order.{≤ℤ-trans, lt-yes, lt-no, le-true, le-false, le-yes}
-use Rattle.rules.specs.Sheet.{between, inSheet}
+use Rattle.rules.specs.Sheet.{between}
 use Rattle.rules.specs.Rows.{sideGood}
 use borrow.Author.Needs.{needs}
 use Rattle.row.proofs.side_good.Statement.{statement}

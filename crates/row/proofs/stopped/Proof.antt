@@ -1,5 +1,5 @@
 -- `stopped` is the comparison of its contract.
-use mathlib.Core.Path.{_≡_, ap}
+use mathlib.Core.Path.{ap}
 use lib.Dec.{leb}
 use borrow.Author.Needs.{needs}
 use Rattle.row.specs.Came.{ENDED}

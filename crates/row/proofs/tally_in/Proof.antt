@@ -1,7 +1,6 @@
 -- `tally_in` reads the visits out of the number.
-use mathlib.Core.Path.{_≡_, ap}
+use mathlib.Core.Path.{ap}
 use Prim.Native.Nat.{ℕ}
-use Rattle.rules.specs.declared.Tally.{Tally}
 use borrow.Author.Needs.{needs}
 use Rattle.row.proofs.tally_in.Statement.{statement}
 use Rattle.row.proofs.tally_in.Tie as tie
