@@ -127,18 +127,22 @@ pub fn split_of(r: Row) -> usize
     r.split as usize
 }
 
-// How a walk ended: over with an even or an odd count, a yes or on-edge, no visit left, and from here on a bad row of the
-// first line, or of the second.
+// How a walk ended: over, with an even count,
 pub const EVEN: u32 = 0;
 
+// or with an odd one;
 pub const ODD: u32 = 1;
 
+// by a yes or on-edge;
 pub const ENDED: u32 = 2;
 
+// for want of visits;
 pub const SPENT: u32 = 3;
 
+// from here on, at that bad row of the first line,
 const BAD_ROW: u32 = 4;
 
+// and from here on, of the second.
 const BAD_SECOND: u32 = 65536;
 
 // How a walk came to its end is one number, which a walk hands back in a register: the visits made, times 2^32, and how it
