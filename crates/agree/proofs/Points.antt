@@ -9,11 +9,13 @@ use lib.Dec.{ltb, eqb}
 use lib.IntN.{ℤ}
 use Rattle.rules.specs.declared.Line.{Line}
 use Rattle.rules.specs.declared.Line.the-variants.{LineA, LineB}
+use Rattle.rules.specs.declared.Next.{Next}
+use Rattle.rules.specs.declared.Next.the-variants.{Left, Spent}
 use Rattle.rules.specs.declared.Tally.{Tally}
 use Rattle.rules.specs.Sheet.{point, onSheet}
 use Rattle.rules.specs.Walk.{Walked, ended, over, spent, refused}
 use Rattle.rules.specs.Questions.{Nothing, nearWalk, Asked, allNear, notNear, unasked, faulted, onNear, askAll, onAllNear}
-use Rattle.row.specs.Came.{came, visitsIn, endIn, badRow, badSecond, refusalAt, refusalIn, tallyIn, cameTo}
+use Rattle.row.specs.Came.{came, visitsIn, endIn, SPENT, badRow, badSecond, refusalAt, refusalIn, tallyIn, due, cameTo}
 use Rattle.row.proofs.Ends.{visits-in, end-in, is-even, is-odd, is-ended, is-spent, is-bad}
 use Rattle.agree.specs.Said.{OFF, offSheet, asked}
 
@@ -73,6 +75,11 @@ module _ (line other : Line) (i allowance : ℕ) where
   pub reads-off : (v : ℕ) → asked line other i allowance (came v OFF) ≡ faulted (offSheet line i v)
   reads-off v = is-off (came v OFF) (end-in v OFF (omega arith)) ∙ ap (λ k. faulted (offSheet line i k)) (visits-in v OFF (omega arith))
 
+-- the walk of a line whose root has a bad row ends there, or for want of a visit
+pub root-end : (x : Next) → (SPENT ≤ endIn (due x badRow)) × (endIn (due x badRow) ≤ badRow)
+root-end (Left v) = let e = end-in (v .visits) badRow (omega arith) in (omega (arith, e), omega (arith, e))
+root-end Spent = (omega arith, omega arith)
+
 -- a walk that says the same whatever the second line is called met no bad row of a second line
 pub one-line : (l : Line) (allowance r : ℕ) {w : Walked Nothing} → ((m : Line) → cameTo tt tt l m allowance r ≡ w) → endIn r < badSecond
 one-line l allowance r {w} h = by (ltb (endIn r) badSecond) refl
@@ -130,6 +137,17 @@ module _ (l : Line) (ps : List ℤ) (m : Line) (qs t : List ℤ) (D : ℤ) where
 
       along : suc i ≡ i + 1
       along = omega arith
+
+  -- the first point is not near: it is what they all come to
+  pub first-stops : (allowance count r : ℕ) (y : Tally) → 1 ≤ count → (endIn r ≡ 2 → ⊥) → asked l m 0 allowance r ≡ asks 0 1 y → asked l m 0 allowance r ≡ asks 0 count y
+  first-stops allowance count r y some ne e =
+      stops l m 0 allowance r (asks 1 (count - 1)) ne
+      ∙ ap (λ (x : Asked). onAllNear x (asks 1 (count - 1))) e
+      ∙ sym (next-point count 0 y some)
+      ∙ (λ j. asks 0 (all j) y)
+    where
+      all : count - 0 ≡ count
+      all = omega arith
 
   -- no point is left
   pub no-point : (i k : ℕ) (y : Tally) → k ≡ 0 → allNear y ≡ asks i k y

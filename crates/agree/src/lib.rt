@@ -6,13 +6,19 @@ use rules::Line;
 use rules::Refusal;
 use rules::Tally;
 ghost use mathlib.Core.Path.{_≡_};
-ghost use Prim.Native.Nat.{_+_, _*_, _<_};
+ghost use mathlib.Core.Bool.{false};
+ghost use mathlib.Core.List.{List};
+ghost use Prim.Native.Nat.{_+_, _*_, _<_, _≤_};
+ghost use lib.Dec.{T};
+ghost use lib.IntN.{ℤ};
 ghost use lib.ListN.{length};
 ghost use Rattle.whole.specs.Range.{Abs≤};
-ghost use Rattle.rules.specs.Sheet.{pointsOf, farthest};
+ghost use Rattle.rules.specs.Sheet.{pointsOf, segmentsOf, farthest};
 ghost use Rattle.rules.specs.Reply.{agreementReply};
+ghost use Rattle.rules.specs.Rows.{endsGood};
 ghost use Rattle.rules.specs.Questions.{askAll, agreed, agreeReply};
 ghost use Rattle.line.specs.Fine.{LengthsFine};
+ghost use Rattle.row.specs.Came.{endIn, ENDED};
 ghost use Rattle.agree.specs.Said.{asked};
 
 // How the asking of a point off the sheet ends: above the number of every bad row.
@@ -28,14 +34,14 @@ struct Stopped {
 fn ask_point(
     points: &[i32],
     i: usize,
-    theirs: &[i32],
-    table: &[i32],
+    theirs: &&[i32],
+    table: &&[i32],
     d: i64,
     allowance: u32,
     visits: u32,
 ) -> u64
-    requires { ⌜ (2 * i + 1 < length (now points)) × LengthsFine (now theirs) (now table) × Abs≤ farthest d ⌝ }
-    ensures { λ r. ⌜ ((line other : Line) → asked line other i allowance r ≡ askAll line (now (points .entry)) other (now (theirs .entry)) (now (table .entry)) d i 1 (record { allowance = allowance; visits = visits })) ⌝ }
+    requires { ⌜ (2 * i + 1 < length (now points)) × LengthsFine (now (now theirs)) (now (now table)) × T (endsGood (now (now theirs)) 0 (segmentsOf (now (now theirs)))) × Abs≤ farthest d ⌝ }
+    ensures { λ r. ⌜ ((line other : Line) → asked line other i allowance r ≡ askAll line (now (points .entry)) other (now (now (theirs .entry))) (now (now (table .entry))) d i 1 (record { allowance = allowance; visits = visits })) ⌝ }
 {
     let z = line::point_at(points, i);
     if !line::on_sheet(z) {
@@ -48,14 +54,14 @@ fn ask_point(
 // The points of a line in order against the other; the first that is not near ends it.
 fn ask_all(
     points: &[i32],
-    theirs: &[i32],
-    table: &[i32],
+    theirs: &&[i32],
+    table: &&[i32],
     d: i64,
     allowance: u32,
     visits: u32,
 ) -> Stopped
-    requires { ⌜ LengthsFine (now theirs) (now table) × Abs≤ farthest d ⌝ }
-    ensures { λ r. ⌜ ((line other : Line) → asked line other (r .at) allowance (r .came) ≡ askAll line (now (points .entry)) other (now (theirs .entry)) (now (table .entry)) d 0 (pointsOf (now (points .entry))) (record { allowance = allowance; visits = visits })) ⌝ }
+    requires { ⌜ LengthsFine (now (now theirs)) (now (now table)) × T (endsGood (now (now theirs)) 0 (segmentsOf (now (now theirs)))) × Abs≤ farthest d ⌝ }
+    ensures { λ r. ⌜ ((line other : Line) → asked line other (r .at) allowance (r .came) ≡ askAll line (now (points .entry)) other (now (now (theirs .entry))) (now (now (table .entry))) d 0 (pointsOf (now (points .entry))) (record { allowance = allowance; visits = visits })) ⌝ }
 {
     let count = points.len() / 2;
     let mut came = row::came(visits, row::ENDED);
@@ -69,6 +75,25 @@ fn ask_all(
         i += 1;
     }
     Stopped { at: i, came }
+}
+
+// Against a line that begins or ends off the sheet: the first point is asked, and the root's row that it meets is bad.
+fn bad_start(points: &[i32], allowance: u32, visits: u32) -> Stopped
+    requires { ⌜ 1 ≤ pointsOf (now points) ⌝ }
+    ensures { λ r. ⌜ ((line other : Line) (theirs table : List ℤ) (d : ℤ) → LengthsFine theirs table → endsGood theirs 0 (segmentsOf theirs) ≡ false → asked line other (r .at) allowance (r .came) ≡ askAll line (now (points .entry)) other theirs table d 0 (pointsOf (now (points .entry))) (record { allowance = allowance; visits = visits })) ⌝ }
+    ensures { λ r. ⌜ ENDED < endIn (r .came) ⌝ }
+{
+    if !line::on_sheet(line::point_at(points, 0)) {
+        return Stopped {
+            at: 0,
+            came: row::came(visits, OFF),
+        };
+    }
+    let tally = Tally { allowance, visits };
+    Stopped {
+        at: 0,
+        came: row::bad_row_due(tally, 0),
+    }
 }
 
 // What the asking of a line's points against the other comes to.
@@ -125,11 +150,19 @@ pub fn agree(
     if !near::distance_fits(distance) {
         return Agreement::Refused(line::early(7, Line::NoLine));
     }
-    let a = ask_all(points_a, points_b, table_b, distance, allowance, 0);
+    if !row::ends_on_sheet(points_b) {
+        let met = bad_start(points_a, allowance, 0);
+        return agreement(Line::LineA, Line::LineB, met, allowance);
+    }
+    let a = ask_all(points_a, &points_b, &table_b, distance, allowance, 0);
     if row::end_in(a.came) != row::ENDED {
         return agreement(Line::LineA, Line::LineB, a, allowance);
     }
     let visits = row::visits_in(a.came);
-    let b = ask_all(points_b, points_a, table_a, distance, allowance, visits);
+    if !row::ends_on_sheet(points_a) {
+        let met = bad_start(points_b, allowance, visits);
+        return agreement(Line::LineB, Line::LineA, met, allowance);
+    }
+    let b = ask_all(points_b, &points_a, &table_a, distance, allowance, visits);
     agreement(Line::LineB, Line::LineA, b, allowance)
 }

@@ -1,29 +1,52 @@
 -- One visit of IN by its cases, in the order of the code.
 use mathlib.Core.Path.{_≡_, refl, sym, _∙_, ap, subst}
-use mathlib.Core.Bool.{Bool, true, false, cond}
+use mathlib.Core.Bool.{Bool, true, false, not, cond, _&&_}
 use mathlib.Core.List.{List}
-use Prim.Native.Nat.{ℕ}
-use lib.IntN.{ℤ}
+use Prim.Native.Nat.{_<_}
+use borrow.Author.Tests.{leb-false}
+use lib.Dec.{T}
+use lib.IntN.{ℤ, pos}
+use lib.Signed.{ltZ}
 use Rattle.rules.specs.declared.Line.the-variants.{LineA}
 use Rattle.rules.specs.declared.Node.{Node}
 use Rattle.rules.specs.declared.Point.{Point}
 use Rattle.rules.specs.declared.Row.{Row}
-use Rattle.rules.specs.Plane.{direction}
-use Rattle.rules.specs.Tree.{rowAt}
+use Rattle.rules.specs.Plane.{eqZ, samePoint, direction}
+use Rattle.rules.specs.Tree.{noSplit, rowAt}
 use Rattle.rules.specs.Plain.{onSegment, crosses}
-use Rattle.rules.specs.Rows.{good}
+use Rattle.rules.specs.Rows.{rangeGood, stripGood, boxGood, good}
 use Rattle.rules.specs.Walk.{Visit, refuse, finish, pass, halve}
 use Rattle.rules.specs.Questions.{leaf, splitIn, openNode, startOf, endOf, clearOf, count, inVisit}
-use Rattle.inside.specs.Said.{stepVisit, SplitsInside}
+use Rattle.visits.proofs.Nodes.{good-read}
+use Rattle.row.specs.Stands.{Stands, EndsOn}
+use Rattle.row.proofs.Parts.{between-parts}
+use Rattle.row.proofs.Places.{opens}
+use Rattle.inside.specs.Said.{leafStep, innerStep, stepVisit, SplitsInside}
 use Rattle.inside.specs.declared.Step.{Step}
-use Rattle.inside.specs.declared.Step.the-variants.{Bad, Finish, Pass}
+use Rattle.inside.specs.declared.Step.the-variants.{Bad, Finish, Pass, Halve}
 
--- ---------------- a leaf
--- what its test comes to is what the definition says, and no split
-leaf-step : (n : Node) (on crossed : Bool)
-    → (stepVisit n (cond on Finish (Pass crossed)) ≡ cond on finish (pass (count crossed))) × SplitsInside n (cond on Finish (Pass crossed))
-leaf-step n true crossed = (refl, tt)
-leaf-step n false crossed = (refl, tt)
+-- ---------------- what is done, by the tests that decide it
+-- a step does what a visit should, and splits inside its node
+abbrev Does : Node → Step → Visit Bool Node → Type 0
+Does n s v = (stepVisit n s ≡ v) × SplitsInside n s
+
+-- a leaf: its row is good, z is clear of it, z is on it, it crosses the ray
+leaf-does : (n : Node) (fine clear on crossed : Bool)
+    → Does n (cond fine (cond clear (Pass crossed) (cond on Finish (Pass crossed))) Bad)
+    (cond fine (cond clear (pass (count crossed)) (cond on finish (pass (count crossed)))) (refuse 10 LineA (n .row)))
+leaf-does n false clear on crossed = (refl, tt)
+leaf-does n true true on crossed = (refl, tt)
+leaf-does n true false true crossed = (refl, tt)
+leaf-does n true false false crossed = (refl, tt)
+
+-- a node of more segments, with a split that is inside it where its row is good
+inner-does : {ps t : List ℤ} {n : Node} (r : Row) (fine clear crossed : Bool) → Stands ps t n
+    → (T fine → (n .first < splitIn r) × (splitIn r < n .last))
+    → Does n (cond fine (cond clear (Pass crossed) (Halve (splitIn r))) Bad)
+    (cond fine (cond clear (pass (count crossed)) (openNode LineA ps n (splitIn r) halve)) (refuse 10 LineA (n .row)))
+inner-does r false clear crossed h i = (refl, tt)
+inner-does r true true crossed h i = (refl, tt)
+inner-does r true false crossed h i = (sym (opens h (i tt .0) (i tt .1) LineA halve), i tt)
 
 -- ---------------- a visit
 -- what is done with a row r and end points a and b, by whether the row is good, z is clear of the node, and it is a leaf
@@ -53,7 +76,7 @@ visit-bad ps t z n r row g =
     let a = startOf ps n in
     let b = endOf ps n in sym (λ d. chosen ps z n r a b (g d) (clearAt r a b z) (leaf n)) ∙ as-read ps t z n r a b row refl refl
 
--- a good row that was read, and the end points of its node
+-- a row that was read, and the end points of its node, which are on the sheet
 pub record RowRead (ps t : List ℤ) (n : Node) : Type 0 where
   pub row : Row
   pub start : Point
@@ -61,34 +84,54 @@ pub record RowRead (ps t : List ℤ) (n : Node) : Type 0 where
   pub row-is : row ≡ rowAt t (n .row)
   pub start-is : start ≡ startOf ps n
   pub end-is : end ≡ endOf ps n
-  pub fine : good ps row (n .first) (n .last) ≡ true
+  pub stands : Stands ps t n
+  pub ends-on : EndsOn ps n
 
 module _ (ps t : List ℤ) (z : Point) (n : Node) (m : RowRead ps t n) where
-  -- whether z is clear of the node
-  abbrev pub isClear : Bool
-  isClear = clearAt (m .row) (m .start) (m .end) z
+  -- the rules that ask for no point, and those of a leaf and of a node of more segments
+  abbrev pub frame : Bool
+  frame = rangeGood (m .row) (n .first) (n .last) && (stripGood (m .row) && boxGood (m .row))
 
-  -- and whether its chord crosses the ray
-  abbrev hits : Bool
-  hits = crosses z (m .start) (m .end)
+  abbrev leafRule : Point → Point → Bool
+  leafRule a b = eqZ (m .row .split) noSplit && not (samePoint a b)
 
-  -- of a good row, the two tests that are left decide
-  good-visit : (clear end : Bool) → isClear ≡ clear → leaf n ≡ end → chosen ps z n (m .row) (m .start) (m .end) true clear end ≡ inVisit ps t z n
-  good-visit clear end h l =
-      sym (λ d. chosen ps z n (m .row) (m .start) (m .end) (m .fine d) (h d) (l d))
+  abbrev innerRule : Bool
+  innerRule = ltZ (pos (n .first)) (m .row .split) && ltZ (m .row .split) (pos (n .last))
+
+  -- with the frame, the rule that is left decides whether the row is good
+  parts : {framed end : Bool} → frame ≡ framed → leaf n ≡ end
+      → fineOf ps n (m .row) ≡ framed && cond end (leafRule (startOf ps n) (endOf ps n)) innerRule
+  parts f l =
+      between-parts ps (m .row) (n .first) (n .last) (m .ends-on .start-on) (m .ends-on .end-on)
+      ∙ (λ d. f d && cond (l d) (leafRule (startOf ps n) (endOf ps n)) innerRule)
+
+  -- a bad frame is refused
+  pub frame-bad : frame ≡ false → Does n Bad (inVisit ps t z n)
+  frame-bad f = (visit-bad ps t z n (m .row) (m .row-is) (parts f refl), tt)
+
+  -- of a good frame, the two tests that are left decide
+  framed-visit : {fine end : Bool} → fineOf ps n (m .row) ≡ fine → leaf n ≡ end
+      → chosen ps z n (m .row) (m .start) (m .end) fine (clearAt (m .row) (m .start) (m .end) z) end ≡ inVisit ps t z n
+  framed-visit g l =
+      sym (λ d. chosen ps z n (m .row) (m .start) (m .end) (g d) (clearAt (m .row) (m .start) (m .end) z) (l d))
       ∙ as-read ps t z n (m .row) (m .start) (m .end) (m .row-is) (m .start-is) (m .end-is)
 
-  -- z clear of the node: the chord alone is counted
-  pub visit-clear : (k : Bool) → isClear ≡ true → k ≡ hits → stepVisit n (Pass k) ≡ inVisit ps t z n
-  visit-clear k h e = (λ d. pass (count (e d))) ∙ good-visit true (leaf n) h refl
+  -- what is said of a step is so of the one that it is
+  told : {s s′ : Step} {v : Visit Bool Node} → s ≡ s′ → Does n s′ v → v ≡ inVisit ps t z n → Does n s (inVisit ps t z n)
+  told e k v = (ap (stepVisit n) e ∙ k .0 ∙ v, subst (SplitsInside n) (sym e) (k .1))
 
-  -- a leaf left over is tested exactly
-  pub visit-leaf : (s : Step) → isClear ≡ false → leaf n ≡ true → s ≡ cond (onSegment z (m .start) (m .end)) Finish (Pass hits)
-      → (stepVisit n s ≡ inVisit ps t z n) × SplitsInside n s
-  visit-leaf s h l e =
-      let k = leaf-step n (onSegment z (m .start) (m .end)) hits in
-      (ap (stepVisit n) e ∙ k .0 ∙ good-visit false true h l, subst (SplitsInside n) (sym e) (k .1))
+  pub leaf-visit : {s : Step} → frame ≡ true → leaf n ≡ true → s ≡ leafStep (m .row) (m .start) (m .end) z → Does n s (inVisit ps t z n)
+  leaf-visit f l e =
+      let fine = parts f l ∙ sym (λ d. leafRule (m .start-is d) (m .end-is d)) in
+      told e
+      (leaf-does n (leafRule (m .start) (m .end)) (clearAt (m .row) (m .start) (m .end) z) (onSegment z (m .start) (m .end)) (crosses z (m .start) (m .end)))
+      (framed-visit fine l)
 
-  -- any other node is split
-  pub visit-open : (s : ℕ) → isClear ≡ false → leaf n ≡ false → s ≡ splitIn (m .row) → openNode LineA ps n s halve ≡ inVisit ps t z n
-  visit-open s h l e = (λ d. openNode LineA ps n (e d) halve) ∙ good-visit false false h l
+  pub inner-visit : {s : Step} → frame ≡ true → leaf n ≡ false → s ≡ innerStep (m .row) (n .first) (n .last) (m .start) (m .end) z
+      → Does n s (inVisit ps t z n)
+  inner-visit f l e =
+      let fine = parts f l in
+      told e
+      (inner-does (m .row) innerRule (clearAt (m .row) (m .start) (m .end) z) (crosses z (m .start) (m .end)) (m .stands)
+      (λ k. good-read ps (m .row) (n .first) (n .last) (subst T (sym fine) k) .split-between (leb-false (n .last) _ l)))
+      (framed-visit fine l)

@@ -3,7 +3,6 @@
 use line::Checked;
 use line::c_at;
 use line::check_lengths;
-use line::direction;
 use line::early;
 use line::on_sheet;
 use line::point_at;
@@ -11,7 +10,6 @@ use line::same_point;
 use line::step;
 use line::t_at;
 use row::row_at;
-use row::row_good;
 use row::split_of;
 use rules::Line;
 use rules::Next;
@@ -22,20 +20,21 @@ use rules::Side;
 use rules::Tally;
 ghost use mathlib.Core.Path.{_≡_};
 ghost use mathlib.Core.Bool.{true, false, cond, _&&_};
-ghost use Prim.Native.Nat.{ℕ, _+_, _≤_};
+ghost use Prim.Native.Nat.{ℕ, _+_, _<_, _≤_};
 ghost use lib.IntN.{pos};
 ghost use lib.ListN.{length};
 ghost use lib.Signed.{ltZ};
 ghost use Rattle.rules.specs.Build.{holdsNumber};
+ghost use Rattle.rules.specs.Plane.{direction};
 ghost use Rattle.rules.specs.Plain.{rangeHolds, onSegment, lowHigh, sideOf, crosses};
 ghost use Rattle.rules.specs.Questions.{outside, clearOf, count, inVisit, sideOfRing, inReply};
 ghost use Rattle.rules.specs.Reply.{sideReply};
 ghost use Rattle.rules.specs.Rows.{ringCheck};
 ghost use Rattle.rules.specs.Walk.{over, walk};
 ghost use Rattle.visits.specs.Small.{OnSheet, Small};
-ghost use Rattle.row.specs.Stands.{Stands};
+ghost use Rattle.row.specs.Stands.{Stands, EndsOn};
 ghost use Rattle.row.specs.Came.{cameTo};
-ghost use Rattle.inside.specs.Said.{stepVisit, SplitsInside};
+ghost use Rattle.inside.specs.Said.{leafStep, innerStep, stepVisit, SplitsInside};
 
 // Whether v lies between lo and hi.
 fn holds(lo: i64, hi: i64, v: i64) -> bool
@@ -114,7 +113,7 @@ fn outside(lo: i64, hi: i64, v: i64) -> bool
 }
 
 // Whether z is strictly outside the box or the strip of a row, whose node starts at s and heads along u.
-fn clear_of(r: Row, s: Point, u: Point, z: Point) -> bool
+fn clear_along(r: Row, s: Point, u: Point, z: Point) -> bool
     requires { ⌜ OnSheet s × Small u × OnSheet z ⌝ }
     ensures { λ g. ⌜ g ≡ clearOf r s u z ⌝ }
 {
@@ -128,6 +127,17 @@ fn clear_of(r: Row, s: Point, u: Point, z: Point) -> bool
         return true;
     }
     outside(r.tmin, r.tmax, t_at(s, u, z))
+}
+
+// The same of a node from a to b. Only a closed run heads another way than along its step, so that way is a branch.
+fn clear_of(r: Row, a: Point, b: Point, z: Point) -> bool
+    requires { ⌜ OnSheet a × OnSheet b × OnSheet z ⌝ }
+    ensures { λ g. ⌜ g ≡ clearOf r a (direction a b) z ⌝ }
+{
+    if same_point(a, b) {
+        return clear_along(r, a, Point { x: 1, y: 0 }, z);
+    }
+    clear_along(r, a, step(a, b), z)
 }
 
 // What one visit does: refused by 10, on-edge, whether to count one crossing, or the halves at a split.
@@ -149,28 +159,53 @@ fn test_leaf(z: Point, a: Point, b: Point) -> Step
     Step::Pass(crosses(z, a, b))
 }
 
-// One visit: the row is read and checked; z clear of box and strip counts the chord alone.
+// A leaf whose frame is good: its points differ, so it heads along its step.
+fn visit_leaf(r: Row, a: Point, b: Point, z: Point) -> Step
+    requires { ⌜ OnSheet a × OnSheet b × OnSheet z ⌝ }
+    ensures { λ g. ⌜ g ≡ leafStep r a b z ⌝ }
+{
+    if !row::leaf_good(r, a, b) {
+        return Step::Bad;
+    }
+    if clear_along(r, a, step(a, b), z) {
+        return Step::Pass(crosses(z, a, b));
+    }
+    test_leaf(z, a, b)
+}
+
+// A node of more segments whose frame is good: z clear of it counts the chord alone.
+fn visit_inner(r: Row, first: usize, last: usize, a: Point, b: Point, z: Point) -> Step
+    requires { ⌜ (first < last) × (last < 4097) ⌝ }
+    requires { ⌜ OnSheet a × OnSheet b × OnSheet z ⌝ }
+    ensures { λ g. ⌜ g ≡ innerStep r first last a b z ⌝ }
+{
+    if !row::splits_inside(r, first, last) {
+        return Step::Bad;
+    }
+    if clear_of(r, a, b, z) {
+        return Step::Pass(crosses(z, a, b));
+    }
+    Step::Halve(split_of(r))
+}
+
+// One visit of a node that begins and ends on the sheet: the row is read, and its frame asked first.
 fn visit(points: &[i32], table: &[i32], node: Node, z: Point) -> Step
-    requires { ⌜ Stands (now points) (now table) node × OnSheet z ⌝ }
+    requires { ⌜ Stands (now points) (now table) node × EndsOn (now points) node × OnSheet z ⌝ }
     ensures { λ r. ⌜ stepVisit node r ≡ inVisit (now (points .entry)) (now (table .entry)) z node ⌝ }
     ensures { λ r. ⌜ SplitsInside node r ⌝ }
 {
-    let row = node.row;
     let first = node.first;
     let last = node.last;
-    let r = row_at(table, row);
-    if !row_good(points, r, first, last) {
+    let r = row_at(table, node.row);
+    let a = point_at(points, first);
+    let b = point_at(points, last);
+    if !row::frame_good(r, first, last) {
         return Step::Bad;
     }
-    let start = point_at(points, first);
-    let end = point_at(points, last);
-    if clear_of(r, start, direction(start, end), z) {
-        return Step::Pass(crosses(z, start, end));
-    }
     if last <= first + 1 {
-        return test_leaf(z, start, end);
+        return visit_leaf(r, a, b, z);
     }
-    Step::Halve(split_of(r))
+    visit_inner(r, first, last, a, b, z)
 }
 
 // Counts are added; only odd or even matters.
@@ -194,22 +229,23 @@ fn over(visits: u32, odd: bool) -> u64
 }
 
 // The walk of a node: the left half, then the right half, with the count handed on. Plain numbers and thin references go
-// in, and one number comes out, so that all of them stay in registers.
+// in, and one number comes out, so that all of them stay in registers. A split off the sheet makes the left half's row bad.
 fn walk(
     points: &&[i32],
     table: &&[i32],
     row: usize,
     first: usize,
     last: usize,
+    odd: bool,
     x: i64,
     y: i64,
-    odd: bool,
-    tally: Tally,
+    allowance: u32,
+    visits: u32,
 ) -> u64
-    requires { ⌜ Stands (now (now points)) (now (now table)) (record { row = row; first = first; last = last }) × OnSheet (record { x = x; y = y }) ⌝ }
-    ensures { λ r. ⌜ ((f : ℕ) → last ≤ f + first → cameTo false true Line.LineA Line.LineA (tally .allowance) r ≡ walk (inVisit (now (now (points .entry))) (now (now (table .entry))) (record { x = x; y = y })) f (record { row = row; first = first; last = last }) odd tally) ⌝ }
+    requires { ⌜ Stands (now (now points)) (now (now table)) (record { row = row; first = first; last = last }) × EndsOn (now (now points)) (record { row = row; first = first; last = last }) × OnSheet (record { x = x; y = y }) ⌝ }
+    ensures { λ r. ⌜ ((f : ℕ) → last ≤ f + first → cameTo false true Line.LineA Line.LineA allowance r ≡ walk (inVisit (now (now (points .entry))) (now (now (table .entry))) (record { x = x; y = y })) f (record { row = row; first = first; last = last }) odd (record { allowance = allowance; visits = visits })) ⌝ }
 {
-    let Next::Left(counted) = tally.visit() else {
+    let Next::Left(counted) = (Tally { allowance, visits }).visit() else {
         return row::came(0, row::SPENT);
     };
     let made = counted.visits;
@@ -219,14 +255,17 @@ fn walk(
         Step::Pass(crossed) => over(made, add(odd, crossed)),
         Step::Halve(mid) => {
             let next = row + 1;
-            let left = walk(points, table, next, first, mid, x, y, odd, counted);
+            if !on_sheet(point_at(*points, mid)) {
+                return row::bad_row_due(counted, next);
+            }
+            let left = walk(points, table, next, first, mid, odd, x, y, allowance, made);
             if row::stopped(left) {
                 return left;
             }
             let right = row + 2 * (mid - first);
             let odd = row::end_in(left) == row::ODD;
-            let after = row::tally_in(counted.allowance, left);
-            walk(points, table, right, mid, last, x, y, odd, after)
+            let made = row::visits_in(left);
+            walk(points, table, right, mid, last, odd, x, y, allowance, made)
         }
     }
 }
@@ -277,13 +316,16 @@ pub fn inside(points: &[i32], table: &[i32], z: Point, allowance: u32) -> Side
     if no_ring(points) {
         return Side::Refused(early(9, Line::LineA));
     }
+    if !row::ends_on_sheet(points) {
+        let fresh = Tally {
+            allowance,
+            visits: 0,
+        };
+        return side_of_ring(row::bad_row_due(fresh, 0), allowance);
+    }
     let last = points.len() / 2 - 1;
-    let fresh = Tally {
-        allowance,
-        visits: 0,
-    };
     side_of_ring(
-        walk(&points, &table, 0, 0, last, z.x, z.y, false, fresh),
+        walk(&points, &table, 0, 0, last, false, z.x, z.y, allowance, 0),
         allowance,
     )
 }

@@ -1,3 +1,4 @@
--- Laws of stored numbers and of lengths, for `line` and the crates above it.
+-- Laws of stored numbers, of lengths and of headings, for `line` and the crates above it.
 pub mod Stored
 pub mod Lengths
+pub mod Headings

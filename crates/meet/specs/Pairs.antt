@@ -11,6 +11,7 @@ use Rattle.rules.specs.declared.Pair.{Pair}
 use Rattle.rules.specs.declared.Point.{Point}
 use Rattle.rules.specs.declared.Row.{Row}
 use Rattle.rules.specs.Sheet.{limit}
+use Rattle.rules.specs.Tree.{rowAt}
 use Rattle.rules.specs.Rows.{good}
 use Rattle.visits.specs.Small.{OnSheet, Small}
 use Rattle.row.specs.Stands.{Stands}
@@ -30,10 +31,16 @@ pub record Placed (r : Row) (s u : Point) : Type 0 where
   pub box-on : BoxOnSheet r
 
 -- ---------------- nodes
--- each node of a pair stands in its line and table
-pub record PairStands (ps t qs t′ : List ℤ) (n : Pair) : Type 0 where
+-- the row of a node is good
+abbrev pub GoodAt : List ℤ → List ℤ → Node → Type 0
+GoodAt ps t n = T (good ps (rowAt t (n .row)) (n .first) (n .last))
+
+-- each node of a pair stands in its line and table, and its row is good
+pub record PairGood (ps t qs t′ : List ℤ) (n : Pair) : Type 0 where
   pub a-stands : Stands ps t (n .a)
   pub b-stands : Stands qs t′ (n .b)
+  pub a-good : GoodAt ps t (n .a)
+  pub b-good : GoodAt qs t′ (n .b)
 
 -- a node stands, with some table, and its row was read and is good
 pub record Read (ps : List ℤ) (r : Row) (n : Node) : Type 0 where

@@ -4,17 +4,16 @@ use mathlib.Core.List.{List}
 use Prim.Native.Nat.{ℕ, _+_, _<_}
 use lib.Dec.{leb}
 use lib.IntN.{ℤ}
-use Rattle.rules.specs.declared.Line.the-variants.{LineA, LineB}
 use Rattle.rules.specs.declared.Node.{Node}
 use Rattle.rules.specs.declared.Pair.{Pair}
 use Rattle.rules.specs.declared.Point.{Point}
 use Rattle.rules.specs.declared.Row.{Row}
 use Rattle.rules.specs.Plane.{step, cAt}
 use Rattle.rules.specs.Plain.{oneSide, share}
-use Rattle.rules.specs.Walk.{Visit, refuse, finish, pass, halve}
+use Rattle.rules.specs.Walk.{Visit, finish, pass, halve}
 use Rattle.rules.specs.Questions.{Nothing, leaf, size, leftOf, rightOf, splitIn, startOf, endOf, headingOf, apart}
 use Rattle.meet.specs.declared.Step.{Step}
-use Rattle.meet.specs.declared.Step.the-variants.{BadA, BadB, Finish, Pass, HalveA, HalveB}
+use Rattle.meet.specs.declared.Step.the-variants.{Finish, Pass, HalveA, HalveB}
 
 -- c and d lie on one side of the line through a and b
 abbrev pub bothAside : Point → Point → Point → Point → Bool
@@ -27,10 +26,8 @@ halvesA n l h = halve (record { a = l; b = n .b }) (record { a = h; b = n .b })
 abbrev pub halvesB : Pair → Node → Node → Visit Nothing Pair
 halvesB n l h = halve (record { a = n .a; b = l }) (record { a = n .a; b = h })
 
--- what a visit of a pair does
+-- what a visit of a pair with good rows does
 abbrev pub stepVisit : Pair → Step → Visit Nothing Pair
-stepVisit n BadA = refuse 10 LineA (n .a .row)
-stepVisit n BadB = refuse 10 LineB (n .b .row)
 stepVisit n Finish = finish
 stepVisit n Pass = pass (λ k. k)
 stepVisit n (HalveA s) = halvesA n (leftOf (n .a) s) (rightOf (n .a) s)
@@ -38,8 +35,6 @@ stepVisit n (HalveB s) = halvesB n (leftOf (n .b) s) (rightOf (n .b) s)
 
 -- a node is halved at an inner point
 abbrev pub SplitsInside : Pair → Step → Type 0
-SplitsInside n BadA = Unit {0}
-SplitsInside n BadB = Unit {0}
 SplitsInside n Finish = Unit {0}
 SplitsInside n Pass = Unit {0}
 SplitsInside n (HalveA s) = (n .a .first < s) × (s < n .a .last)

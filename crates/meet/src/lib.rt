@@ -1,5 +1,6 @@
-// MEET: whether some segment of line A and some of line B share a point. One visit reads a row of each line, checks both,
-// and dismisses the pair, tests two segments, or halves one node; `meet` takes any slices, and says what `rules` says of them.
+// MEET: whether some segment of line A and some of line B share a point. One visit reads a row of each line and dismisses the
+// pair, tests two segments, or halves one node. Of a pair only one row is new, so a row is checked before the walk goes to it.
+// `meet` takes any slices, and says what `rules` says of them.
 mod segments;
 mod strips;
 
@@ -11,14 +12,17 @@ use row::ENDED;
 use row::EVEN;
 use row::SPENT;
 use row::answer;
-use row::bad_row;
-use row::bad_second;
+use row::bad_row_due;
+use row::bad_second_due;
 use row::came;
+use row::good_between;
+use row::good_from;
 use row::row_at;
 use row::row_good;
 use row::split_of;
 use row::stopped;
 use row::tally_in;
+use row::visits_in;
 use rules::Answer;
 use rules::Line;
 use rules::Next;
@@ -29,22 +33,22 @@ use rules::Row;
 use rules::Tally;
 use segments::share;
 use strips::apart;
+use strips::boxes_apart;
 ghost use mathlib.Core.Path.{_≡_};
 ghost use mathlib.Core.Bool.{not, _&&_};
 ghost use Prim.Native.Nat.{ℕ, _<_, _≤_};
 ghost use lib.Dec.{T};
 ghost use Rattle.rules.specs.Reply.{answerReply};
-ghost use Rattle.rules.specs.Walk.{walk};
-ghost use Rattle.rules.specs.Questions.{leaf, meetVisit, meetReply};
+ghost use Rattle.rules.specs.Walk.{next, over, onVisit, fresh, walk};
+ghost use Rattle.rules.specs.Questions.{leaf, yesOrNo, meetVisit, meetWalk, meetReply};
 ghost use Rattle.visits.specs.Small.{OnSheet};
+ghost use Rattle.line.specs.Fine.{LengthsFine};
 ghost use Rattle.row.specs.Came.{cameTo};
-ghost use Rattle.meet.specs.Pairs.{HasSplit, Read, PairStands};
+ghost use Rattle.meet.specs.Pairs.{HasSplit, Read, PairGood};
 ghost use Rattle.meet.specs.Said.{stepVisit, SplitsInside, tested, opened, compared, pairOf, segments};
 
-// What one visit does: a bad row of A or of B; a yes; nothing shared; or a node is halved, at a point.
+// What one visit does: a yes; nothing shared; or a node is halved, at a point.
 enum Step {
-    BadA,
-    BadB,
     Finish,
     Pass,
     HalveA(usize),
@@ -110,21 +114,16 @@ fn compare(points_a: &[i32], r: Row, points_b: &[i32], q: Row, pair: Pair) -> St
     open_larger(r, q, pair)
 }
 
+// One visit of a pair whose rows are known to be good.
 fn visit(points_a: &[i32], table_a: &[i32], points_b: &[i32], table_b: &[i32], pair: Pair) -> Step
-    requires { ⌜ PairStands (now «points_a») (now «table_a») (now «points_b») (now «table_b») pair ⌝ }
+    requires { ⌜ PairGood (now «points_a») (now «table_a») (now «points_b») (now «table_b») pair ⌝ }
     ensures { λ s. ⌜ stepVisit pair s ≡ meetVisit (now («points_a» .entry)) (now («table_a» .entry)) (now («points_b» .entry)) (now («table_b» .entry)) pair ⌝ }
     ensures { λ s. ⌜ SplitsInside pair s ⌝ }
 {
     let a = pair.a;
     let b = pair.b;
     let r = row_at(table_a, a.row);
-    if !row_good(points_a, r, a.first, a.last) {
-        return Step::BadA;
-    }
     let q = row_at(table_b, b.row);
-    if !row_good(points_b, q, b.first, b.last) {
-        return Step::BadB;
-    }
     compare(points_a, r, points_b, q, pair)
 }
 
@@ -145,8 +144,8 @@ fn pair_of(p: usize, i: usize, j: usize, q: usize, k: usize, l: usize) -> Pair
     Pair { a, b }
 }
 
-// The walk from a pair on, the left half first; a yes ends it. The pair comes as its plain numbers, so that they stay in registers:
-// line A with its points a and table ta, line B with b and tb.
+// The walk from a pair on, the left half first; a yes ends it, and so does a bad row of a half. The pair and the tally come as
+// plain numbers, so that they stay in registers: line A with its points a and table ta, line B with b and tb.
 fn walk(
     a: &&[i32],
     ta: &&[i32],
@@ -158,39 +157,109 @@ fn walk(
     q: usize,
     k: usize,
     l: usize,
-    tally: Tally,
+    allowance: u32,
+    visits: u32,
 ) -> u64
-    requires { ⌜ PairStands (now (now a)) (now (now ta)) (now (now b)) (now (now tb)) (pairOf p i j q k l) ⌝ }
-    ensures { λ r. ⌜ ((f : ℕ) → segments (pairOf p i j q k l) ≤ f → cameTo tt tt Line.LineA Line.LineB (tally .allowance) r ≡ walk (meetVisit (now (now (a .entry))) (now (now (ta .entry))) (now (now (b .entry))) (now (now (tb .entry)))) f (pairOf p i j q k l) tt tally) ⌝ }
+    requires { ⌜ PairGood (now (now a)) (now (now ta)) (now (now b)) (now (now tb)) (pairOf p i j q k l) ⌝ }
+    ensures { λ r. ⌜ ((f : ℕ) → segments (pairOf p i j q k l) ≤ f → cameTo tt tt Line.LineA Line.LineB allowance r ≡ walk (meetVisit (now (now (a .entry))) (now (now (ta .entry))) (now (now (b .entry))) (now (now (tb .entry)))) f (pairOf p i j q k l) tt (record { allowance = allowance; visits = visits })) ⌝ }
 {
+    let tally = Tally { allowance, visits };
     let Next::Left(counted) = tally.visit() else {
         return came(0, SPENT);
     };
     let made = counted.visits;
     match visit(*a, *ta, *b, *tb, pair_of(p, i, j, q, k, l)) {
-        Step::BadA => bad_row(made, p),
-        Step::BadB => bad_second(made, q),
         Step::Finish => came(made, ENDED),
         Step::Pass => came(made, EVEN),
         Step::HalveA(split) => {
-            let left = walk(a, ta, b, tb, p + 1, i, split, q, k, l, counted);
+            if !good_from(*a, row_at(*ta, p + 1), i, split) {
+                return bad_row_due(counted, p + 1);
+            }
+            let left = walk(a, ta, b, tb, p + 1, i, split, q, k, l, allowance, made);
             if stopped(left) {
                 return left;
             }
             let right = p + 2 * (split - i);
-            let after = tally_in(counted.allowance, left);
-            walk(a, ta, b, tb, right, split, j, q, k, l, after)
+            if !good_between(*a, row_at(*ta, right), split, j) {
+                return bad_row_due(tally_in(allowance, left), right);
+            }
+            let after = visits_in(left);
+            walk(a, ta, b, tb, right, split, j, q, k, l, allowance, after)
         }
         Step::HalveB(split) => {
-            let left = walk(a, ta, b, tb, p, i, j, q + 1, k, split, counted);
+            if !good_from(*b, row_at(*tb, q + 1), k, split) {
+                return bad_second_due(counted, q + 1);
+            }
+            let left = walk(a, ta, b, tb, p, i, j, q + 1, k, split, allowance, made);
             if stopped(left) {
                 return left;
             }
             let right = q + 2 * (split - k);
-            let after = tally_in(counted.allowance, left);
-            walk(a, ta, b, tb, p, i, j, right, split, l, after)
+            if !good_between(*b, row_at(*tb, right), split, l) {
+                return bad_second_due(tally_in(allowance, left), right);
+            }
+            let after = visits_in(left);
+            walk(a, ta, b, tb, p, i, j, right, split, l, allowance, after)
         }
     }
+}
+
+// The answer where the first visit dismisses the pair of the roots.
+fn at_once(tally: Tally) -> Answer
+    ensures { λ r. ⌜ answerReply r ≡ yesOrNo (tally .allowance) (onVisit (next tally) (λ y. over tt y)) ⌝ }
+{
+    let Next::Left(counted) = tally.visit() else {
+        return Answer::Undecided(tally.allowance);
+    };
+    Answer::No(counted.visits)
+}
+
+// The answer of the walk from both roots, whose rows are checked first. Roots with their boxes apart, as most lines of a register
+// have them, need no walk.
+fn from_roots(
+    points_a: &[i32],
+    table_a: &[i32],
+    points_b: &[i32],
+    table_b: &[i32],
+    allowance: u32,
+) -> Answer
+    requires { ⌜ LengthsFine (now «points_a») (now «table_a») × LengthsFine (now «points_b») (now «table_b») ⌝ }
+    ensures { λ r. ⌜ answerReply r ≡ yesOrNo allowance (meetWalk (now («points_a» .entry)) (now («table_a» .entry)) (now («points_b» .entry)) (now («table_b» .entry)) (fresh allowance)) ⌝ }
+{
+    let last_a = points_a.len() / 2 - 1;
+    let last_b = points_b.len() / 2 - 1;
+    let fresh = Tally {
+        allowance,
+        visits: 0,
+    };
+    let r = row_at(table_a, 0);
+    if !row_good(points_a, r, 0, last_a) {
+        return answer(bad_row_due(fresh, 0), allowance);
+    }
+    let q = row_at(table_b, 0);
+    if !row_good(points_b, q, 0, last_b) {
+        return answer(bad_second_due(fresh, 0), allowance);
+    }
+    if boxes_apart(r, q) {
+        return at_once(fresh);
+    }
+    answer(
+        walk(
+            &points_a,
+            &table_a,
+            &points_b,
+            &table_b,
+            0,
+            0,
+            last_a,
+            0,
+            0,
+            last_b,
+            allowance,
+            0,
+        ),
+        allowance,
+    )
 }
 
 // Whether the lines share a point, by at most this many visits: refusals 1, 2, 3 and 6 of A, then of B, then the walk.
@@ -209,26 +278,5 @@ pub fn meet(
     if let Checked::Refused(refusal) = check_lengths(Line::LineB, points_b, table_b) {
         return Answer::Refused(refusal);
     }
-    let last_a = points_a.len() / 2 - 1;
-    let last_b = points_b.len() / 2 - 1;
-    let fresh = Tally {
-        allowance,
-        visits: 0,
-    };
-    answer(
-        walk(
-            &points_a,
-            &table_a,
-            &points_b,
-            &table_b,
-            0,
-            0,
-            last_a,
-            0,
-            0,
-            last_b,
-            fresh,
-        ),
-        allowance,
-    )
+    from_roots(points_a, table_a, points_b, table_b, allowance)
 }

@@ -10,7 +10,7 @@ ghost use Rattle.visits.specs.Small.{OnSheet, Small};
 ghost use Rattle.meet.specs.Pairs.{BoxOnSheet, Placed};
 ghost use Rattle.meet.specs.Corners.{CornersOnSheet, cornersOf, valuesAt, fourOf, allBelow, beyond};
 
-fn boxes_apart(r: Row, q: Row) -> bool
+pub fn boxes_apart(r: Row, q: Row) -> bool
     requires { ⌜ BoxOnSheet r × BoxOnSheet q ⌝ }
     ensures { λ b. ⌜ b ≡ boxesApart r q ⌝ }
 {

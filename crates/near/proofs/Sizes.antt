@@ -1,12 +1,13 @@
--- How large a distance can be, and how far z falls short of a strip.
+-- How large a distance and its square can be, and how far z falls short of a strip.
 use mathlib.Core.Bool.{cond}
-use Prim.Native.Nat.{ℕ}
+use Prim.Native.Nat.{ℕ, _*_}
 use lib.Dec.{T}
-use lib.IntN.{ℤ, pos, negℤ, _-ℤ_}
+use lib.IntN.{ℤ, pos, negℤ, _-ℤ_, _*ℤ_}
 use lib.Signed.{leZ, ltZ, _≤ℤ_, _<ℤ_, leZ-yes, ltZ-yes}
 use mir.Facts.{and-yes}
 use Rattle.whole.specs.Laws.{zarith, cond-ind, PN-add, P-neg, N-neg}
-use Rattle.whole.specs.Range.{Abs≤, abs-of, abs-lo, abs-hi}
+use Rattle.whole.specs.Poly.{_:*_}
+use Rattle.whole.specs.Range.{Abs≤, abs-of, abs-lo, abs-hi, nil, _&_, within}
 use Rattle.rules.specs.Sheet.{farthest, distanceFits}
 use Rattle.rules.specs.Questions.{shortfall}
 
@@ -16,6 +17,10 @@ distance-abs D t =
     let h = and-yes (leZ (pos 0) D) (leZ D (pos farthest)) t in
     let l = leZ-yes {a = pos 0} {b = D} (h .0) in
     abs-of (omega (zarith, P-neg (pos farthest), N-neg (pos farthest))) (leZ-yes (h .1))
+
+-- and its square
+pub square-abs : {D : ℤ} → Abs≤ farthest D → Abs≤ (farthest * farthest) (D *ℤ D)
+square-abs h = within 1 (λ d. d :* d) (h & nil)
 
 -- ---------------- what v lacks of a range that holds 0 is at most |v|
 pub below-short : {B : ℕ} {lo v : ℤ} → Abs≤ B v → lo ≤ℤ pos 0 → v <ℤ lo → Abs≤ B (lo -ℤ v)

@@ -1,9 +1,17 @@
 -- What the values of `near` say, in the words of the definitions.
-use Prim.Native.Nat.{_<_}
+use mathlib.Core.Bool.{Bool, not, cond, _&&_}
+use Prim.Native.Nat.{ℕ, _<_}
+use lib.IntN.{ℤ, pos}
+use lib.Signed.{ltZ}
 use Rattle.rules.specs.declared.Line.{Line}
 use Rattle.rules.specs.declared.Node.{Node}
+use Rattle.rules.specs.declared.Point.{Point}
+use Rattle.rules.specs.declared.Row.{Row}
+use Rattle.rules.specs.Plane.{eqZ, samePoint, direction}
+use Rattle.rules.specs.Plain.{within}
+use Rattle.rules.specs.Tree.{noSplit}
 use Rattle.rules.specs.Walk.{Visit, refuse, finish, pass, halve}
-use Rattle.rules.specs.Questions.{Nothing, leftOf, rightOf}
+use Rattle.rules.specs.Questions.{Nothing, leftOf, rightOf, splitIn, farFrom}
 use Rattle.near.specs.declared.Visited.{Visited}
 use Rattle.near.specs.declared.Visited.the-variants.{Bad, Finish, Pass, Halve}
 
@@ -14,9 +22,26 @@ visitOf l n Finish = finish
 visitOf l n Pass = pass (λ k. k)
 visitOf l n (Halve s) = halve (leftOf n s) (rightOf n s)
 
+-- what a visit comes to where the frame of the row is good: of a leaf, by whether the last rule holds, the strip is far and
+-- the segment is within the distance
+abbrev pub leafBy : Bool → Bool → Bool → Visited
+leafBy isGood isFar isWithin = cond isGood (cond isFar Pass (cond isWithin Finish Pass)) Bad
+
+-- and of a longer node with a split
+abbrev pub innerBy : ℕ → Bool → Bool → Visited
+innerBy split isGood isFar = cond isGood (cond isFar Pass (Halve split)) Bad
+
+-- so from a to b, for the point z and the distance D
+abbrev pub leafSeen : Row → Point → Point → Point → ℤ → Visited
+leafSeen r a b z D = leafBy (eqZ (r .split) noSplit && not (samePoint a b)) (farFrom r a (direction a b) z D) (within z a b D)
+
+abbrev pub innerSeen : Row → ℕ → ℕ → Point → Point → Point → ℤ → Visited
+innerSeen r first last a b z D =
+    innerBy (splitIn r) (ltZ (pos first) (r .split) && ltZ (r .split) (pos last)) (farFrom r a (direction a b) z D)
+
 -- a node is halved at an inner point
-abbrev pub SplitsInside : Node → Visited → Type 0
-SplitsInside n Bad = Unit {0}
-SplitsInside n Finish = Unit {0}
-SplitsInside n Pass = Unit {0}
-SplitsInside n (Halve s) = (n .first < s) × (s < n .last)
+abbrev pub SplitsBetween : ℕ → ℕ → Visited → Type 0
+SplitsBetween first last Bad = Unit {0}
+SplitsBetween first last Finish = Unit {0}
+SplitsBetween first last Pass = Unit {0}
+SplitsBetween first last (Halve s) = (first < s) × (s < last)

@@ -10,54 +10,56 @@ use rules::Row;
 use rules::Tally;
 ghost use mathlib.Core.Path.{_≡_};
 ghost use Prim.Native.Nat.{ℕ, _+_, _*_, _-_, _<_, _≤_};
-ghost use lib.IntN.{pos, _+ℤ_, _*ℤ_};
+ghost use lib.Dec.{T};
+ghost use lib.IntN.{ℤ, pos, _+ℤ_, _*ℤ_};
 ghost use lib.Signed.{ltZ, _≤ℤ_};
 ghost use Rattle.whole.specs.Range.{Abs≤};
-ghost use Rattle.rules.specs.Plane.{step, size²};
-ghost use Rattle.rules.specs.Sheet.{farthest, distanceFits};
+ghost use Rattle.rules.specs.Plane.{step, direction, size²};
+ghost use Rattle.rules.specs.Sheet.{segmentsOf, farthest, distanceFits};
 ghost use Rattle.rules.specs.Plain.{within};
 ghost use Rattle.rules.specs.Reply.{answerReply};
+ghost use Rattle.rules.specs.Rows.{endsGood};
 ghost use Rattle.rules.specs.Walk.{walk};
 ghost use Rattle.rules.specs.Questions.{shortfall, farFrom, nearVisit, nearWalk, nearReply};
 ghost use Rattle.visits.specs.Small.{OnSheet, Small, widest};
 ghost use Rattle.line.specs.Fine.{LengthsFine};
-ghost use Rattle.row.specs.Stands.{Stands};
+ghost use Rattle.row.specs.Stands.{Stands, EndsOn};
 ghost use Rattle.row.specs.Came.{cameTo};
 ghost use Rattle.near.specs.Bounds.{HoldsStart};
-ghost use Rattle.near.specs.Said.{visitOf, SplitsInside};
+ghost use Rattle.near.specs.Said.{visitOf, leafSeen, innerSeen, SplitsBetween};
 
-// Whether g^2 + h^2 is above d^2*v: every squared comparison is this one.
-fn farther(g: i64, h: i64, d: i64, v: i64) -> bool
-    requires { ⌜ Abs≤ widest g × Abs≤ widest h × Abs≤ farthest d × Abs≤ widest v ⌝ }
-    ensures { λ r. ⌜ r ≡ ltZ (d *ℤ d *ℤ v) (g *ℤ g +ℤ h *ℤ h) ⌝ }
+// Whether g^2 + h^2 is above reach*v, the reach being the distance squared: every squared comparison is this one.
+fn farther(g: i64, h: i64, reach: i64, v: i64) -> bool
+    requires { ⌜ Abs≤ widest g × Abs≤ widest h × Abs≤ (farthest * farthest) reach × Abs≤ widest v ⌝ }
+    ensures { λ r. ⌜ r ≡ ltZ (reach *ℤ v) (g *ℤ g +ℤ h *ℤ h) ⌝ }
 {
-    d * d * v < g * g + h * h
+    reach * v < g * g + h * h
 }
 
-// Whether b is more than d away from a.
-fn apart(a: Point, b: Point, d: i64) -> bool
-    requires { ⌜ OnSheet a × OnSheet b × Abs≤ farthest d ⌝ }
-    ensures { λ r. ⌜ r ≡ ltZ (d *ℤ d) (size² (step a b)) ⌝ }
+// Whether b is more than the distance away from a.
+fn apart(a: Point, b: Point, reach: i64) -> bool
+    requires { ⌜ OnSheet a × OnSheet b × Abs≤ (farthest * farthest) reach ⌝ }
+    ensures { λ r. ⌜ r ≡ ltZ reach (size² (step a b)) ⌝ }
 {
     let u = line::step(a, b);
-    farther(u.x, u.y, d, 1)
+    farther(u.x, u.y, reach, 1)
 }
 
-// Whether the segment a to b is within d of z: by its start, its end, or along it.
-pub fn within(z: Point, a: Point, b: Point, d: i64) -> bool
-    requires { ⌜ OnSheet z × OnSheet a × OnSheet b × Abs≤ farthest d ⌝ }
-    ensures { λ r. ⌜ r ≡ within z a b d ⌝ }
+// Whether the segment a to b is within the distance of z: by its start, its end, or along it.
+fn within(z: Point, a: Point, b: Point, reach: i64) -> bool
+    requires { ⌜ OnSheet z × OnSheet a × OnSheet b × Abs≤ (farthest * farthest) reach ⌝ }
+    ensures { λ r. ⌜ ((D : ℤ) → reach ≡ D *ℤ D → r ≡ within z a b D) ⌝ }
 {
     let u = line::step(a, b);
     let t = line::t_at(a, u, z);
     if t <= 0 {
-        return !apart(a, z, d);
+        return !apart(a, z, reach);
     }
     let v = line::size2(u);
     if v <= t {
-        return !apart(b, z, d);
+        return !apart(b, z, reach);
     }
-    !farther(line::c_at(a, u, z), 0, d, v)
+    !farther(line::c_at(a, u, z), 0, reach, v)
 }
 
 // How far v lies outside the range lo to hi, which holds 0.
@@ -74,14 +76,25 @@ fn shortfall(lo: i64, hi: i64, v: i64) -> i64
     0
 }
 
-// Whether the strip of a node is more than d away from z.
-fn far_from(r: Row, s: Point, u: Point, z: Point, d: i64) -> bool
-    requires { ⌜ HoldsStart r × OnSheet s × Small u × OnSheet z × Abs≤ farthest d ⌝ }
-    ensures { λ g. ⌜ g ≡ farFrom r s u z d ⌝ }
+// Whether the strip of a node with the direction u is more than the distance away from z.
+fn far_along(r: Row, s: Point, u: Point, z: Point, reach: i64) -> bool
+    requires { ⌜ HoldsStart r × OnSheet s × Small u × OnSheet z × Abs≤ (farthest * farthest) reach ⌝ }
+    ensures { λ g. ⌜ ((D : ℤ) → reach ≡ D *ℤ D → g ≡ farFrom r s u z D) ⌝ }
 {
     let gc = shortfall(r.cmin, r.cmax, line::c_at(s, u, z));
     let gt = shortfall(r.tmin, r.tmax, line::t_at(s, u, z));
-    farther(gc, gt, d, line::size2(u))
+    farther(gc, gt, reach, line::size2(u))
+}
+
+// The same of a node from a to b. Only a closed run asks for another direction than its step, so it is a branch.
+fn far_from(r: Row, a: Point, b: Point, z: Point, reach: i64) -> bool
+    requires { ⌜ HoldsStart r × OnSheet a × OnSheet b × OnSheet z × Abs≤ (farthest * farthest) reach ⌝ }
+    ensures { λ g. ⌜ ((D : ℤ) → reach ≡ D *ℤ D → g ≡ farFrom r a (direction a b) z D) ⌝ }
+{
+    if line::same_point(a, b) {
+        return far_along(r, a, Point { x: 1, y: 0 }, z, reach);
+    }
+    far_along(r, a, line::step(a, b), z, reach)
 }
 
 // What one visit does: a bad row, a yes, nothing near, or two halves.
@@ -92,32 +105,69 @@ enum Visited {
     Halve(usize),
 }
 
-fn visit(points: &[i32], table: &[i32], node: Node, z: Point, d: i64) -> Visited
-    requires { ⌜ Stands (now points) (now table) node × OnSheet z × Abs≤ farthest d ⌝ }
-    ensures { λ r. ⌜ ((l : Line) → visitOf l node r ≡ nearVisit l (now (points .entry)) (now (table .entry)) z d node) ⌝ }
-    ensures { λ r. ⌜ SplitsInside node r ⌝ }
+// A visit of a leaf whose frame is good: its points differ, so its direction is its step.
+fn visit_leaf(r: Row, a: Point, b: Point, z: Point, reach: i64) -> Visited
+    requires { ⌜ HoldsStart r × OnSheet a × OnSheet b × OnSheet z × Abs≤ (farthest * farthest) reach ⌝ }
+    ensures { λ v. ⌜ ((D : ℤ) → reach ≡ D *ℤ D → v ≡ leafSeen r a b z D) ⌝ }
+    ensures { λ v. ⌜ ((first last : ℕ) → SplitsBetween first last v) ⌝ }
+{
+    if !row::leaf_good(r, a, b) {
+        return Visited::Bad;
+    }
+    if far_along(r, a, line::step(a, b), z, reach) {
+        return Visited::Pass;
+    }
+    if within(z, a, b, reach) {
+        return Visited::Finish;
+    }
+    Visited::Pass
+}
+
+// A visit of a longer node whose frame is good.
+fn visit_inner(
+    r: Row,
+    first: usize,
+    last: usize,
+    a: Point,
+    b: Point,
+    z: Point,
+    reach: i64,
+) -> Visited
+    requires { ⌜ (first < last) × (last < 4097) × HoldsStart r × OnSheet a × OnSheet b × OnSheet z × Abs≤ (farthest * farthest) reach ⌝ }
+    ensures { λ v. ⌜ ((D : ℤ) → reach ≡ D *ℤ D → v ≡ innerSeen r first last a b z D) ⌝ }
+    ensures { λ v. ⌜ SplitsBetween first last v ⌝ }
+{
+    if !row::splits_inside(r, first, last) {
+        return Visited::Bad;
+    }
+    if far_from(r, a, b, z, reach) {
+        return Visited::Pass;
+    }
+    Visited::Halve(row::split_of(r))
+}
+
+// A visit of a node whose ends are known to be on the sheet.
+fn visit(points: &[i32], table: &[i32], node: Node, z: Point, reach: i64) -> Visited
+    requires { ⌜ Stands (now points) (now table) node × EndsOn (now points) node × OnSheet z × Abs≤ (farthest * farthest) reach ⌝ }
+    ensures { λ r. ⌜ ((l : Line) (D : ℤ) → reach ≡ D *ℤ D → visitOf l node r ≡ nearVisit l (now (points .entry)) (now (table .entry)) z D node) ⌝ }
+    ensures { λ r. ⌜ SplitsBetween (node .first) (node .last) r ⌝ }
 {
     let first = node.first;
     let last = node.last;
     let row = row::row_at(table, node.row);
-    if !row::row_good(points, row, first, last) {
-        return Visited::Bad;
-    }
     let a = line::point_at(points, first);
     let b = line::point_at(points, last);
-    if far_from(row, a, line::direction(a, b), z, d) {
-        return Visited::Pass;
+    if !row::frame_good(row, first, last) {
+        return Visited::Bad;
     }
     if last <= first + 1 {
-        if within(z, a, b, d) {
-            return Visited::Finish;
-        }
-        return Visited::Pass;
+        return visit_leaf(row, a, b, z, reach);
     }
-    Visited::Halve(row::split_of(row))
+    visit_inner(row, first, last, a, b, z, reach)
 }
 
-// The walk from a node on, left child first; a yes ends it. Plain numbers and thin references stay in registers.
+// The walk from a node on, left child first; a yes ends it. A split off the sheet ends its children, so every node that is
+// visited has its ends on the sheet. Plain numbers and thin references stay in registers.
 fn walk(
     points: &&[i32],
     table: &&[i32],
@@ -126,41 +176,68 @@ fn walk(
     last: usize,
     x: i64,
     y: i64,
-    d: i64,
-    tally: Tally,
+    reach: i64,
+    allowance: u32,
+    visits: u32,
 ) -> u64
-    requires { ⌜ Stands (now (now points)) (now (now table)) (record { row = row; first = first; last = last }) × OnSheet (record { x = x; y = y }) × Abs≤ farthest d ⌝ }
-    ensures { λ r. ⌜ ((l m : Line) (f : ℕ) → last ≤ f + first → cameTo tt tt l m (tally .allowance) r ≡ walk (nearVisit l (now (now (points .entry))) (now (now (table .entry))) (record { x = x; y = y }) d) f (record { row = row; first = first; last = last }) tt tally) ⌝ }
+    requires { ⌜ Stands (now (now points)) (now (now table)) (record { row = row; first = first; last = last }) × EndsOn (now (now points)) (record { row = row; first = first; last = last }) × OnSheet (record { x = x; y = y }) × Abs≤ (farthest * farthest) reach ⌝ }
+    ensures { λ r. ⌜ ((l m : Line) (f : ℕ) (D : ℤ) → reach ≡ D *ℤ D → last ≤ f + first → cameTo tt tt l m allowance r ≡ walk (nearVisit l (now (now (points .entry))) (now (now (table .entry))) (record { x = x; y = y }) D) f (record { row = row; first = first; last = last }) tt (record { allowance = allowance; visits = visits })) ⌝ }
 {
+    let tally = Tally { allowance, visits };
     let Next::Left(counted) = tally.visit() else {
         return row::came(0, row::SPENT);
     };
     let made = counted.visits;
     let node = Node { row, first, last };
-    match visit(*points, *table, node, Point { x, y }, d) {
+    match visit(*points, *table, node, Point { x, y }, reach) {
         Visited::Bad => row::bad_row(made, row),
         Visited::Finish => row::came(made, row::ENDED),
         Visited::Pass => row::came(made, row::EVEN),
-        Visited::Halve(split) => {
+        Visited::Halve(mid) => {
             let low = row + 1;
-            let high = row + 2 * (split - first);
-            let left = walk(points, table, low, first, split, x, y, d, counted);
+            if !line::on_sheet(line::point_at(*points, mid)) {
+                return row::bad_row_due(counted, low);
+            }
+            let high = row + 2 * (mid - first);
+            let left = walk(points, table, low, first, mid, x, y, reach, allowance, made);
             if row::stopped(left) {
                 return left;
             }
-            let after = row::tally_in(counted.allowance, left);
-            walk(points, table, high, split, last, x, y, d, after)
+            let made = row::visits_in(left);
+            walk(points, table, high, mid, last, x, y, reach, allowance, made)
         }
     }
 }
 
-// NEAR of a line whose lengths, and a point and a distance, are checked; the tally goes on.
-pub fn ask(points: &[i32], table: &[i32], z: Point, d: i64, tally: Tally) -> u64
-    requires { ⌜ LengthsFine (now points) (now table) × OnSheet z × Abs≤ farthest d ⌝ }
-    ensures { λ r. ⌜ ((l m : Line) → cameTo tt tt l m (tally .allowance) r ≡ nearWalk l (now (points .entry)) (now (table .entry)) z d tally) ⌝ }
+// NEAR of a line whose lengths and ends, and a point and a distance, are checked; the tally goes on.
+pub fn ask(points: &&[i32], table: &&[i32], z: Point, d: i64, tally: Tally) -> u64
+    requires { ⌜ LengthsFine (now (now points)) (now (now table)) × T (endsGood (now (now points)) 0 (segmentsOf (now (now points)))) × OnSheet z × Abs≤ farthest d ⌝ }
+    ensures { λ r. ⌜ ((l m : Line) → cameTo tt tt l m (tally .allowance) r ≡ nearWalk l (now (now (points .entry))) (now (now (table .entry))) z d tally) ⌝ }
 {
     let last = points.len() / 2 - 1;
-    walk(&points, &table, 0, 0, last, z.x, z.y, d, tally)
+    walk(
+        points,
+        table,
+        0,
+        0,
+        last,
+        z.x,
+        z.y,
+        d * d,
+        tally.allowance,
+        tally.visits,
+    )
+}
+
+// The same, wherever the line begins and ends: off the sheet its root's row is bad.
+fn ask_any(points: &&[i32], table: &&[i32], z: Point, d: i64, tally: Tally) -> u64
+    requires { ⌜ LengthsFine (now (now points)) (now (now table)) × OnSheet z × Abs≤ farthest d ⌝ }
+    ensures { λ r. ⌜ ((l m : Line) → cameTo tt tt l m (tally .allowance) r ≡ nearWalk l (now (now (points .entry))) (now (now (table .entry))) z d tally) ⌝ }
+{
+    if !row::ends_on_sheet(*points) {
+        return row::bad_row_due(tally, 0);
+    }
+    ask(points, table, z, d, tally)
 }
 
 pub fn distance_fits(d: i64) -> bool
@@ -187,5 +264,5 @@ pub fn near(points: &[i32], table: &[i32], z: Point, distance: i64, allowance: u
         allowance,
         visits: 0,
     };
-    row::answer(ask(points, table, z, distance, fresh), allowance)
+    row::answer(ask_any(&points, &table, z, distance, fresh), allowance)
 }

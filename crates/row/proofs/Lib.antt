@@ -2,3 +2,4 @@
 pub mod Parts
 pub mod Places
 pub mod Ends
+pub mod Dues

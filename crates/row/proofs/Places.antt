@@ -3,16 +3,19 @@ use mathlib.Core.Path.{_≡_}
 use mathlib.Core.List.{List}
 use Prim.Native.Nat.{ℕ, _<_}
 use native.Mathlib.Omega.{arith}
+use lib.Dec.{T}
 use lib.IntN.{ℤ}
+use mir.Facts.{and-yes}
 use Rattle.rules.specs.declared.Line.{Line}
 use Rattle.rules.specs.declared.Node.{Node}
-use Rattle.rules.specs.Sheet.{segmentsOf}
+use Rattle.rules.specs.Sheet.{point, segmentsOf, onSheet}
+use Rattle.rules.specs.Rows.{endsGood}
 use Rattle.rules.specs.Tree.{rowCount}
 use Rattle.rules.specs.Walk.{Visit}
 use Rattle.rules.specs.Questions.{root, leftOf, rightOf, openNode}
 use Rattle.visits.proofs.Nodes.{Fits, root-fits, fits-row, fits-left, fits-right, open-fits}
 use Rattle.line.specs.Fine.{LengthsFine}
-use Rattle.row.specs.Stands.{Stands}
+use Rattle.row.specs.Stands.{Stands, EndsOn}
 
 pub root-stands : {ps t : List ℤ} → LengthsFine ps t → Stands ps t (root ps)
 root-stands {ps} f =
@@ -40,3 +43,15 @@ module _ {ps t : List ℤ} {n : Node} (h : Stands ps t n) where
     -- and room for its children's rows: refusal 11 does not come
     pub opens : {S N : Type 0} (l : Line) (go : Node → Node → Visit S N) → openNode l ps n s go ≡ go (leftOf n s) (rightOf n s)
     opens l go = open-fits l ps n s go fits low high
+
+-- ---------------- where a line begins and ends on the sheet so does its root, and so do halves that share a point on it
+pub root-ends : {ps : List ℤ} → T (endsGood ps 0 (segmentsOf ps)) → EndsOn ps (root ps)
+root-ends {ps} h =
+    let k = and-yes (onSheet (point ps 0)) (onSheet (point ps (segmentsOf ps))) h in record { start-on = k .0; end-on = k .1 }
+
+module _ {ps : List ℤ} {n : Node} (h : EndsOn ps n) {s : ℕ} (on : T (onSheet (point ps s))) where
+  pub left-ends : EndsOn ps (leftOf n s)
+  left-ends = record { start-on = h .start-on; end-on = on }
+
+  pub right-ends : EndsOn ps (rightOf n s)
+  right-ends = record { start-on = on; end-on = h .end-on }

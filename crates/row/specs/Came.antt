@@ -4,6 +4,8 @@ use Prim.Native.Nat.{ℕ, _+_, _*_, _-_, _/_, _%_}
 use lib.Dec.{ltb, eqb}
 use Rattle.rules.specs.declared.Line.{Line}
 use Rattle.rules.specs.declared.Refusal.{Refusal}
+use Rattle.rules.specs.declared.Next.{Next}
+use Rattle.rules.specs.declared.Next.the-variants.{Left, Spent}
 use Rattle.rules.specs.declared.Tally.{Tally}
 use Rattle.rules.specs.Walk.{Walked, ended, over, spent, refused}
 
@@ -48,6 +50,11 @@ refusalIn l m r =
 
 abbrev pub tallyIn : ℕ → ℕ → Tally
 tallyIn allowance r = record { allowance = allowance; visits = visitsIn r }
+
+-- a visit was due that ends the walk like this, if there was one left to make
+abbrev pub due : Next → ℕ → ℕ
+due (Left v) end = came (v .visits) end
+due Spent end = came 0 SPENT
 
 -- ---- the same in the words of the walk, with the counts that even and odd stand for
 unfoldable pub cameTo : {S : Type 0} → S → S → Line → Line → ℕ → ℕ → Walked S

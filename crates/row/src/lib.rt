@@ -5,6 +5,7 @@ use line::point_at;
 use line::same_point;
 use rules::Answer;
 use rules::Line;
+use rules::Next;
 use rules::Point;
 use rules::Refusal;
 use rules::Row;
@@ -13,16 +14,18 @@ use whole::wide;
 ghost use mathlib.Core.Path.{_≡_};
 ghost use mathlib.Core.Bool.{not, _&&_};
 ghost use Prim.Native.Nat.{_+_, _*_, _<_, _≤_};
-ghost use lib.Dec.{leb};
+ghost use lib.Dec.{T, leb};
 ghost use lib.IntN.{pos};
 ghost use lib.ListN.{length};
 ghost use lib.Signed.{leZ, ltZ, _≤ℤ_};
 ghost use Rattle.rules.specs.Plane.{eqZ, samePoint};
 ghost use Rattle.rules.specs.Tree.{width, rowAt, noSplit};
 ghost use Rattle.rules.specs.Reply.{answerReply};
-ghost use Rattle.rules.specs.Rows.{rangeGood, stripGood, sideGood, boxGood, good};
+ghost use Rattle.rules.specs.Sheet.{point, pointsOf, segmentsOf, onSheet};
+ghost use Rattle.rules.specs.Rows.{rangeGood, stripGood, sideGood, boxGood, endsGood, good};
+ghost use Rattle.rules.specs.Walk.{next};
 ghost use Rattle.rules.specs.Questions.{splitIn, yesOrNo};
-ghost use Rattle.row.specs.Came.{came, visitsIn, endIn, ENDED, badRow, badSecond, refusalIn, tallyIn, cameTo};
+ghost use Rattle.row.specs.Came.{came, visitsIn, endIn, ENDED, badRow, badSecond, refusalIn, tallyIn, due, cameTo};
 
 // Row r of a table.
 pub fn row_at(table: &[i32], r: usize) -> Row
@@ -53,42 +56,78 @@ fn range_good(r: Row, first: usize, last: usize) -> bool
 }
 
 // A node of more segments splits strictly inside its range.
-fn splits_inside(r: Row, first: usize, last: usize) -> bool
+pub fn splits_inside(r: Row, first: usize, last: usize) -> bool
     requires { ⌜ (first < last) × (last < 4097) ⌝ }
     ensures { λ g. ⌜ g ≡ ltZ (pos first) (r .split) && ltZ (r .split) (pos last) ⌝ }
 {
     (first as i64) < r.split && r.split < last as i64
 }
 
-// Whether the range lo to hi holds 0.
+// Whether the range lo to hi holds 0. Comparisons joined by `&` are made at once: none of them is a branch.
 fn holds_zero(lo: i64, hi: i64) -> bool
     ensures { λ g. ⌜ g ≡ leZ lo (pos 0) && leZ (pos 0) hi ⌝ }
 {
-    lo <= 0 && 0 <= hi
+    (lo <= 0) & (0 <= hi)
 }
 
 fn strip_good(r: Row) -> bool
     ensures { λ g. ⌜ g ≡ stripGood r ⌝ }
 {
-    holds_zero(r.cmin, r.cmax) && holds_zero(r.tmin, r.tmax)
+    holds_zero(r.cmin, r.cmax) & holds_zero(r.tmin, r.tmax)
 }
 
 fn side_good(lo: i64, hi: i64) -> bool
     ensures { λ g. ⌜ g ≡ sideGood lo hi ⌝ }
 {
-    if lo < -LIMIT {
-        return false;
-    }
-    if hi < lo {
-        return false;
-    }
-    hi <= LIMIT
+    (-LIMIT <= lo) & (lo <= hi) & (hi <= LIMIT)
 }
 
 fn box_good(r: Row) -> bool
     ensures { λ g. ⌜ g ≡ boxGood r ⌝ }
 {
-    side_good(r.xmin, r.xmax) && side_good(r.ymin, r.ymax)
+    side_good(r.xmin, r.xmax) & side_good(r.ymin, r.ymax)
+}
+
+// The rules that ask for no point: the range handed down, a strip that holds the start, a box on the sheet.
+pub fn frame_good(r: Row, first: usize, last: usize) -> bool
+    requires { ⌜ (first < last) × (last < 4097) ⌝ }
+    ensures { λ g. ⌜ g ≡ rangeGood r first last && (stripGood r && boxGood r) ⌝ }
+{
+    if !range_good(r, first, last) {
+        return false;
+    }
+    strip_good(r) & box_good(r)
+}
+
+// A leaf has no split, and its two points differ.
+pub fn leaf_good(r: Row, a: Point, b: Point) -> bool
+    ensures { λ g. ⌜ g ≡ eqZ (r .split) noSplit && not (samePoint a b) ⌝ }
+{
+    r.split == -1 && !same_point(a, b)
+}
+
+// Whether a row is good whose node is known to begin and end on the sheet.
+pub fn good_between(points: &[i32], r: Row, first: usize, last: usize) -> bool
+    requires { ⌜ (first < last) × (last < 4097) × (2 * last + 1 < length (now points)) ⌝ }
+    requires { ⌜ T (onSheet (point (now points) first)) × T (onSheet (point (now points) last)) ⌝ }
+    ensures { λ g. ⌜ g ≡ good (now (points .entry)) r first last ⌝ }
+{
+    if !frame_good(r, first, last) {
+        return false;
+    }
+    if last <= first + 1 {
+        return leaf_good(r, point_at(points, first), point_at(points, last));
+    }
+    splits_inside(r, first, last)
+}
+
+// Whether a row is good whose node is known to begin on the sheet.
+pub fn good_from(points: &[i32], r: Row, first: usize, last: usize) -> bool
+    requires { ⌜ (first < last) × (last < 4097) × (2 * last + 1 < length (now points)) ⌝ }
+    requires { ⌜ T (onSheet (point (now points) first)) ⌝ }
+    ensures { λ g. ⌜ g ≡ good (now (points .entry)) r first last ⌝ }
+{
+    on_sheet(point_at(points, last)) && good_between(points, r, first, last)
 }
 
 // Whether a row that is read at a visit is good, for the range handed down.
@@ -96,27 +135,16 @@ pub fn row_good(points: &[i32], r: Row, first: usize, last: usize) -> bool
     requires { ⌜ (first < last) × (last < 4097) × (2 * last + 1 < length (now points)) ⌝ }
     ensures { λ g. ⌜ g ≡ good (now (points .entry)) r first last ⌝ }
 {
-    let a = point_at(points, first);
-    let b = point_at(points, last);
-    if !range_good(r, first, last) {
-        return false;
-    }
-    if !strip_good(r) {
-        return false;
-    }
-    if !box_good(r) {
-        return false;
-    }
-    if !on_sheet(a) {
-        return false;
-    }
-    if !on_sheet(b) {
-        return false;
-    }
-    if last <= first + 1 {
-        return r.split == -1 && !same_point(a, b);
-    }
-    splits_inside(r, first, last)
+    on_sheet(point_at(points, first)) && good_from(points, r, first, last)
+}
+
+// Whether a line begins and ends on the sheet.
+pub fn ends_on_sheet(points: &[i32]) -> bool
+    requires { ⌜ 2 ≤ pointsOf (now points) ⌝ }
+    ensures { λ g. ⌜ g ≡ endsGood (now (points .entry)) 0 (segmentsOf (now (points .entry))) ⌝ }
+{
+    let last = points.len() / 2 - 1;
+    on_sheet(point_at(points, 0)) && on_sheet(point_at(points, last))
 }
 
 // The split of a good row that is not a leaf's.
@@ -188,6 +216,31 @@ pub fn bad_second(visits: u32, row: usize) -> u64
     ensures { λ r. ⌜ r ≡ came visits (badSecond + row) ⌝ }
 {
     came(visits, BAD_SECOND + row as u32)
+}
+
+// A visit is due that ends the walk, if there is one left to make.
+fn due(tally: Tally, end: u32) -> u64
+    ensures { λ r. ⌜ r ≡ due (next tally) end ⌝ }
+{
+    let Next::Left(counted) = tally.visit() else {
+        return came(0, SPENT);
+    };
+    came(counted.visits, end)
+}
+
+// A visit is due to a bad row of the first line, or of the second.
+pub fn bad_row_due(tally: Tally, row: usize) -> u64
+    requires { ⌜ row < 8193 ⌝ }
+    ensures { λ r. ⌜ r ≡ due (next tally) (badRow + row) ⌝ }
+{
+    due(tally, BAD_ROW + row as u32)
+}
+
+pub fn bad_second_due(tally: Tally, row: usize) -> u64
+    requires { ⌜ row < 8193 ⌝ }
+    ensures { λ r. ⌜ r ≡ due (next tally) (badSecond + row) ⌝ }
+{
+    due(tally, BAD_SECOND + row as u32)
 }
 
 // Whether the walk stopped, and nothing is left to visit.

@@ -48,7 +48,7 @@ pub record GoodRow (ps : List ℤ) (r : Row) (first last : ℕ) : Type 0 where
   pub ends-differ : last ≤ first + 1 → samePoint (point ps first) (point ps last) ≡ false
 
 -- a split above first, as a number of points
-between-read : (first last : ℕ) (s : ℤ) → pos first <ℤ s → s <ℤ pos last → (first < natAbs s) × (natAbs s < last)
+pub between-read : (first last : ℕ) (s : ℤ) → pos first <ℤ s → s <ℤ pos last → (first < natAbs s) × (natAbs s < last)
 between-read first last (pos n) h k = (omega zarith, omega zarith)
 between-read first last (negsuc n) h k = absurd (omega zarith)
 

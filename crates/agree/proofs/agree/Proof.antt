@@ -1,24 +1,28 @@
 -- `agree` asks the checks in the order of the list; where none refuses, the walks answer.
 use mathlib.Core.Path.{_≡_, refl, sym, _∙_, ap}
 use mathlib.Core.Bool.{Bool, true}
+use mathlib.Core.List.{List}
 use mathlib.Core.Option.{Option, none}
 use native.Mathlib.Omega.{arith}
 use borrow.Author.Tests.{not-true, not-false}
 use lib.IntN.{ℤ}
 use mir.Syntax.{w64}
+use mir.Val.{toZ, ofZ}
 use mir.Facts.{toZ-ofZ}
 use Rattle.whole.specs.Order.{T-true}
+use Rattle.whole.specs.Range.{Abs≤}
 use Rattle.rules.specs.declared.Agreement.the-variants.{Refused}
 use Rattle.rules.specs.declared.Line.the-variants.{LineA, LineB}
 use Rattle.rules.specs.declared.Refusal.{Refusal}
 use Rattle.rules.specs.declared.Tally.{Tally}
-use Rattle.rules.specs.Sheet.{pointsOf, distanceFits}
+use Rattle.rules.specs.Sheet.{pointsOf, farthest, distanceFits}
 use Rattle.rules.specs.Reply.{firstRefusal, orRefused, agreementReply}
 use Rattle.rules.specs.Rows.{lengthChecks}
 use Rattle.rules.specs.Walk.{fresh}
 use Rattle.rules.specs.Questions.{Asked, askAll, onAllNear, agreed, agreeWalk, agreeReply}
 use Rattle.visits.proofs.Checks.{orElse}
 use Rattle.line.specs.declared.Checked.the-variants.{Fine}
+use Rattle.line.specs.Fine.{LengthsFine}
 use Rattle.line.specs.Said.{checkedRefusal}
 use Rattle.line.proofs.Lengths.{lengths-fine}
 use Rattle.line.proofs.Stored.{stored-abs}
@@ -31,12 +35,25 @@ use borrow.Author.Needs.{needs}
 use Rattle.agree.proofs.agree.Statement.{statement}
 use Rattle.agree.proofs.agree.Tie as tie
 
+-- the lines and the tables, which the walks are handed by reference
+abbrev pointsA : tie.Start → List ℤ
+pointsA s = s .args .t1 .now
+
+abbrev tableA : tie.Start → List ℤ
+tableA s = s .args .t2 .now
+
+abbrev pointsB : tie.Start → List ℤ
+pointsB s = s .args .t3 .now
+
+abbrev tableB : tie.Start → List ℤ
+tableB s = s .args .t4 .now
+
 -- ---------------- what each check said
 abbrev refusalA : tie.Start → Option Refusal
-refusalA s = firstRefusal (lengthChecks LineA (s .args .points-a .now) (s .args .table-a .now))
+refusalA s = firstRefusal (lengthChecks LineA (pointsA s) (tableA s))
 
 abbrev refusalB : tie.Start → Option Refusal
-refusalB s = firstRefusal (lengthChecks LineB (s .args .points-b .now) (s .args .table-b .now))
+refusalB s = firstRefusal (lengthChecks LineB (pointsB s) (tableB s))
 
 fine-a : (c : tie.After-enum-told) → refusalA (c .before .before .before) ≡ none
 fine-a c = let e : c .before .before .check-lengths .result ≡ Fine = cc in sym (c .before .before .check-lengths .ensures) ∙ ap checkedRefusal e
@@ -44,14 +61,20 @@ fine-a c = let e : c .before .before .check-lengths .result ≡ Fine = cc in sym
 fine-b : (c : tie.After-enum-told2) → refusalB (c .before .before .before .before .before .before) ≡ none
 fine-b c = let e : c .before .before .check-lengths2 .result ≡ Fine = cc in sym (c .before .before .check-lengths2 .ensures) ∙ ap checkedRefusal e
 
+lengths-a : (c : tie.After-enum-told) → LengthsFine (pointsA (c .before .before .before)) (tableA (c .before .before .before))
+lengths-a c = lengths-fine LineA _ _ (fine-a c)
+
+lengths-b : (c : tie.After-enum-told2) → LengthsFine (pointsB (c .before .before .before .before .before .before)) (tableB (c .before .before .before .before .before .before))
+lengths-b c = lengths-fine LineB _ _ (fine-b c)
+
 distance-said : (c : tie.After-distance-fits) → c .distance-fits .result ≡ distanceFits (c .before .before .before .before .before .before .before .args .distance)
 distance-said c = c .distance-fits .ensures ∙ ap distanceFits (toZ-ofZ {w = w64} (c .before .before .before .before .before .before .before .fits .distance))
 
 -- they decide the reply
 decided : (s : tie.Start) {o p : Option Refusal} {d : Bool} → refusalA s ≡ o → refusalB s ≡ p → distanceFits (s .args .distance) ≡ d
-    → orRefused (orElse o (orElse p (distanceRefusal (s .args .distance) d))) (walksReply (s .args .points-a .now) (s .args .table-a .now) (s .args .points-b .now) (s .args .table-b .now) (s .args .distance) (s .args .allowance))
-    ≡ agreeReply (s .args .points-a .now) (s .args .table-a .now) (s .args .points-b .now) (s .args .table-b .now) (s .args .distance) (s .args .allowance)
-decided s = agree-checked (s .args .points-a .now) (s .args .table-a .now) (s .args .points-b .now) (s .args .table-b .now) (s .args .distance) (s .args .allowance)
+    → orRefused (orElse o (orElse p (distanceRefusal (s .args .distance) d))) (walksReply (pointsA s) (tableA s) (pointsB s) (tableB s) (s .args .distance) (s .args .allowance))
+    ≡ agreeReply (pointsA s) (tableA s) (pointsB s) (tableB s) (s .args .distance) (s .args .allowance)
+decided s = agree-checked (pointsA s) (tableA s) (pointsB s) (tableB s) (s .args .distance) (s .args .allowance)
 
 check-lengths-requires : tie.Need-check-lengths-requires
 check-lengths-requires c κs = search needs
@@ -98,77 +121,154 @@ fits c = sym (distance-said (c .before)) ∙ not-false _ (c .if1 .left)
 abbrev start : tie.Else1 → tie.Start
 start c = c .before .before .before .before .before .before .before .before
 
-ask-all-requires : tie.Need-ask-all-requires
-ask-all-requires c κs = (lengths-fine _ _ _ (fine-b (c .before .before)), stored-abs (distance-abs (start c .args .distance) (T-true (fits c))) tt)
+-- what is known of both lines and of the distance
+lengths : (c : tie.Else1) → LengthsFine (pointsA (start c)) (tableA (start c)) × LengthsFine (pointsB (start c)) (tableB (start c))
+lengths c = (lengths-a (c .before .before .before .before .before), lengths-b (c .before .before))
 
-end-in-requires : tie.Need-end-in-requires
-end-in-requires c κs = search needs
+distance-small : (c : tie.Else1) → Abs≤ farthest (toZ w64 (ofZ w64 (start c .args .distance)))
+distance-small c = stored-abs (distance-abs (start c .args .distance) (T-true (fits c))) tt
+
+ends-on-sheet-requires : tie.Need-ends-on-sheet-requires
+ends-on-sheet-requires c κs = lengths c .1 .some-points
 
 -- B's points against A, at a distance
 abbrev second : tie.Start → ℤ → Tally → Asked
-second s d v = askAll LineB (s .args .points-b .now) LineA (s .args .points-a .now) (s .args .table-a .now) d 0 (pointsOf (s .args .points-b .now)) v
+second s d v = askAll LineB (pointsB s) LineA (pointsA s) (tableA s) d 0 (pointsOf (pointsB s)) v
 
--- what A's points come to
-abbrev first : tie.After-ask-all → Asked
-first c = asked LineA LineB (c .ask-all .result .at) (start (c .before) .args .allowance) (c .ask-all .result .came)
+-- the whole, from the start
+abbrev whole : tie.Start → Asked
+whole s = agreeWalk (pointsA s) (tableA s) (pointsB s) (tableB s) (s .args .distance) (fresh (s .args .allowance))
 
 -- A's points are asked: with B's after them it is the whole
-after-first : (c : tie.After-ask-all)
-    → onAllNear (first c) (second (start (c .before)) (start (c .before) .args .distance))
-    ≡ agreeWalk (start (c .before) .args .points-a .now) (start (c .before) .args .table-a .now) (start (c .before) .args .points-b .now) (start (c .before) .args .table-b .now) (start (c .before) .args .distance) (fresh (start (c .before) .args .allowance))
+after-first : (s : tie.Start) {x : Asked} → x ≡ askAll LineA (pointsA s) LineB (pointsB s) (tableB s) (s .args .distance) 0 (pointsOf (pointsA s)) (fresh (s .args .allowance))
+    → onAllNear x (second s (s .args .distance)) ≡ whole s
 unfolding agreeWalk
-after-first c =
-    let s = start (c .before) in
-    let a = s .args in
-    let d = toZ-ofZ {w = w64} (s .fits .distance) in
-    ap (λ (x : Asked). onAllNear x (second s (a .distance)))
-    (c .ask-all .ensures LineA LineB ∙ (λ i. askAll LineA (a .points-a .now) LineB (a .points-b .now) (a .table-b .now) (d i) 0 (pointsOf (a .points-a .now)) (fresh (a .allowance))))
+after-first s e = ap (λ (x : Asked). onAllNear x (second s (s .args .distance))) e
 
 -- what the walks come to is the reply
-answered : (c : tie.Else1) {x : Asked}
-    → x ≡ agreeWalk (start c .args .points-a .now) (start c .args .table-a .now) (start c .args .points-b .now) (start c .args .table-b .now) (start c .args .distance) (fresh (start c .args .allowance))
-    → agreed (start c .args .allowance) x ≡ agreeReply (start c .args .points-a .now) (start c .args .table-a .now) (start c .args .points-b .now) (start c .args .table-b .now) (start c .args .distance) (start c .args .allowance)
+answered : (c : tie.Else1) {x : Asked} → x ≡ whole (start c)
+    → agreed (start c .args .allowance) x ≡ agreeReply (pointsA (start c)) (tableA (start c)) (pointsB (start c)) (tableB (start c)) (start c .args .distance) (start c .args .allowance)
 answered c e =
     ap (agreed (start c .args .allowance)) e ∙ decided (start c) (fine-a (c .before .before .before .before .before)) (fine-b (c .before .before)) (fits c)
+
+-- ---------------- B begins or ends off the sheet
+bad-start-requires : tie.Need-bad-start-requires
+bad-start-requires c κs = omega (arith, lengths (c .before .before) .0 .some-points)
 
 agreement-requires : tie.Need-agreement-requires
 agreement-requires c κs = search needs
 
 returns-4 : tie.Need-returns-4
 returns-4 c =
-    let w = c .before .before .before in
-    let r = w .ask-all .result in
-    let e = c .before .before .end-in .ensures in
+    let w = c .before in
+    let k = w .before .before .before in
+    let s = start k in
+    let a = s .args in
+    let r = w .bad-start .result in
+    let off = sym (w .before .before .ends-on-sheet .ensures) ∙ not-true _ (w .before .if2 .taken) in
     c .agreement .ensures
-    ∙ answered (w .before) (stops LineA LineB (r .at) (start (w .before) .args .allowance) (r .came) _ (λ q. c .before .if2 .taken (e ∙ q)) ∙ after-first w)
+    ∙ answered k
+    (stops LineA LineB (r .at) (a .allowance) (r .came) _ (λ q. omega (arith, w .bad-start .ensures .1, q))
+    ∙ after-first s (w .bad-start .ensures .0 LineA LineB (pointsB s) (tableB s) (a .distance) (lengths k .1) off))
 
-visits-in-requires : tie.Need-visits-in-requires
-visits-in-requires c κs = search needs
+-- ---------------- A's points
+ask-all-requires : tie.Need-ask-all-requires
+ask-all-requires c κs =
+    let e = c .before .before in
+    let k = e .before .before in
+    (lengths k .1, T-true (sym (e .before .ends-on-sheet .ensures) ∙ not-false _ (e .if2 .left)), distance-small k)
 
-ask-all-requires-2 : tie.Need-ask-all-requires-2
-ask-all-requires-2 c κs =
-    let k = c .before .before .before .before in
-    (lengths-fine _ _ _ (fine-a (k .before .before .before .before .before)), stored-abs (distance-abs (start k .args .distance) (T-true (fits k))) tt)
+end-in-requires : tie.Need-end-in-requires
+end-in-requires c κs = search needs
+
+-- where they were about to be asked
+abbrev passed : tie.After-ask-all → tie.Else1
+passed c = c .before .before .before .before .before
+
+first-asked : (c : tie.After-ask-all)
+    → onAllNear (asked LineA LineB (c .ask-all .result .at) (start (passed c) .args .allowance) (c .ask-all .result .came)) (second (start (passed c)) (start (passed c) .args .distance))
+    ≡ whole (start (passed c))
+first-asked c =
+    let s = start (passed c) in
+    let d = toZ-ofZ {w = w64} (s .fits .distance) in
+    after-first s (c .ask-all .ensures LineA LineB ∙ (λ i. askAll LineA (pointsA s) LineB (pointsB s) (tableB s) (d i) 0 (pointsOf (pointsA s)) (fresh (s .args .allowance))))
 
 agreement-requires-2 : tie.Need-agreement-requires-2
 agreement-requires-2 c κs = search needs
 
 returns-5 : tie.Need-returns-5
 returns-5 c =
-    let w = c .before .before .before .before .before in
-    let s = start (w .before) in
+    let w = c .before .before .before in
+    let k = passed w in
+    let r = w .ask-all .result in
+    let e = c .before .before .end-in .ensures in
+    c .agreement2 .ensures
+    ∙ answered k (stops LineA LineB (r .at) (start k .args .allowance) (r .came) _ (λ q. c .before .if3 .taken (e ∙ q)) ∙ first-asked w)
+
+visits-in-requires : tie.Need-visits-in-requires
+visits-in-requires c κs = search needs
+
+-- ---------------- A's points are near B: what B's come to is the whole
+abbrev asked-a : tie.After-visits-in → tie.After-ask-all
+asked-a c = c .before .before .before
+
+abbrev begin : tie.After-visits-in → tie.Start
+begin c = start (passed (asked-a c))
+
+after-both : (c : tie.After-visits-in) {x : Asked}
+    → x ≡ second (begin c) (begin c .args .distance) (record { allowance = begin c .args .allowance; visits = c .visits-in .result })
+    → x ≡ whole (begin c)
+after-both c q =
+    let w = asked-a c in
+    let s = begin c in
     let a = s .args in
     let r = w .ask-all .result in
-    let d = toZ-ofZ {w = w64} (s .fits .distance) in
-    let v = c .before .before .visits-in .ensures in
-    let e = c .before .before .before .before .end-in .ensures in
-    let near : endIn (r .came) ≡ 2 = omega (arith, e, c .before .before .before .if2 .left) in
-    c .agreement2 .ensures
-    ∙ answered (w .before)
-    (c .before .ask-all2 .ensures LineB LineA
-    ∙ (λ i. second s (d i) (record { allowance = a .allowance; visits = v i }))
+    let e = c .before .before .end-in .ensures in
+    let near : endIn (r .came) ≡ 2 = omega (arith, e, c .before .if3 .left) in
+    q
+    ∙ (λ i. second s (a .distance) (record { allowance = a .allowance; visits = c .visits-in .ensures i }))
     ∙ sym (ap (λ (x : Asked). onAllNear x (second s (a .distance))) (is-near LineA LineB (r .at) (a .allowance) (r .came) near))
-    ∙ after-first w)
+    ∙ first-asked w
+
+ends-on-sheet-requires-2 : tie.Need-ends-on-sheet-requires-2
+ends-on-sheet-requires-2 c κs = lengths (passed (asked-a c)) .0 .some-points
+
+bad-start-requires-2 : tie.Need-bad-start-requires-2
+bad-start-requires-2 c κs = omega (arith, lengths (passed (asked-a (c .before .before))) .1 .some-points)
+
+agreement-requires-3 : tie.Need-agreement-requires-3
+agreement-requires-3 c κs = search needs
+
+returns-6 : tie.Need-returns-6
+returns-6 c =
+    let w = c .before in
+    let o = w .before .before .before in
+    let k = passed (asked-a o) in
+    let s = start k in
+    let off = sym (w .before .before .ends-on-sheet2 .ensures) ∙ not-true _ (w .before .if4 .taken) in
+    c .agreement3 .ensures
+    ∙ answered k (after-both o (w .bad-start2 .ensures .0 LineB LineA (pointsA s) (tableA s) (s .args .distance) (lengths k .0) off))
+
+ask-all-requires-2 : tie.Need-ask-all-requires-2
+ask-all-requires-2 c κs =
+    let e = c .before .before in
+    let k = passed (asked-a (e .before .before)) in
+    (lengths k .0, T-true (sym (e .before .ends-on-sheet2 .ensures) ∙ not-false _ (e .if4 .left)), distance-small k)
+
+agreement-requires-4 : tie.Need-agreement-requires-4
+agreement-requires-4 c κs = search needs
+
+returns-7 : tie.Need-returns-7
+returns-7 c =
+    let o = c .before .before .before .before .before .before in
+    let k = passed (asked-a o) in
+    let s = start k in
+    let d = toZ-ofZ {w = w64} (s .fits .distance) in
+    c .agreement4 .ensures
+    ∙ answered k
+    (after-both o
+    (c .before .ask-all2 .ensures LineB LineA
+    ∙ (λ i. second s (d i) (record { allowance = s .args .allowance; visits = o .visits-in .result }))))
 
 pub agree-spec : {M : Type 1} → statement M
 agree-spec =
@@ -185,11 +285,19 @@ agree-spec =
     distance-fits-requires
     early-requires
     returns-3
-    ask-all-requires
-    end-in-requires
+    ends-on-sheet-requires
+    bad-start-requires
     agreement-requires
     returns-4
-    visits-in-requires
-    ask-all-requires-2
+    ask-all-requires
+    end-in-requires
     agreement-requires-2
-    returns-5)
+    returns-5
+    visits-in-requires
+    ends-on-sheet-requires-2
+    bad-start-requires-2
+    agreement-requires-3
+    returns-6
+    ask-all-requires-2
+    agreement-requires-4
+    returns-7)

@@ -21,15 +21,15 @@ use Rattle.agree.proofs.ask_all.Tie as tie
 abbrev Inv-loop : tie.InvT-loop
 Inv-loop points theirs table d allowance visits count came₀ i₀ came i =
     (i ≤ count) × (endIn came ≡ 2)
-    × ((line other : Line) → askAll line points other theirs table (toZ w64 d) i (count - i) (tallyIn allowance came)
-    ≡ askAll line points other theirs table (toZ w64 d) 0 count (record { allowance = allowance; visits = visits }))
+    × ((line other : Line) → askAll line points other (theirs .now) (table .now) (toZ w64 d) i (count - i) (tallyIn allowance came)
+    ≡ askAll line points other (theirs .now) (table .now) (toZ w64 d) 0 count (record { allowance = allowance; visits = visits }))
 
 abbrev μ-loop : tie.MeasureT-loop
 μ-loop points theirs table d allowance visits count came₀ i₀ came i = count - i
 
 -- points of the line against the other, as many from i on, with the distance as it is read back
 abbrev asks : tie.Start Inv-loop μ-loop → Line → Line → ℕ → ℕ → Tally → Asked
-asks s line other = askAll line (s .args .points .now) other (s .args .theirs .now) (s .args .table .now) (toZ w64 (ofZ w64 (s .args .d)))
+asks s line other = askAll line (s .args .points .now) other (s .args .theirs .now .now) (s .args .table .now .now) (toZ w64 (ofZ w64 (s .args .d)))
 
 abbrev count : tie.Start Inv-loop μ-loop → ℕ
 count s = pointsOf (s .args .points .now)
@@ -40,9 +40,9 @@ tally s v = record { allowance = s .args .allowance; visits = v }
 -- which is the distance itself
 all-asked : (s : tie.Start Inv-loop μ-loop) (line other : Line)
     → asks s line other 0 (count s) (tally s (s .args .visits))
-    ≡ askAll line (s .args .points .now) other (s .args .theirs .now) (s .args .table .now) (s .args .d) 0 (count s) (tally s (s .args .visits))
+    ≡ askAll line (s .args .points .now) other (s .args .theirs .now .now) (s .args .table .now .now) (s .args .d) 0 (count s) (tally s (s .args .visits))
 all-asked s line other =
-    ap (λ (d : ℤ). askAll line (s .args .points .now) other (s .args .theirs .now) (s .args .table .now) d 0 (count s) (tally s (s .args .visits))) (stored (s .pre .1) tt)
+    ap (λ (d : ℤ). askAll line (s .args .points .now) other (s .args .theirs .now .now) (s .args .table .now .now) d 0 (count s) (tally s (s .args .visits))) (stored (s .pre .2) tt)
 
 abbrev start : tie.After-ask-point Inv-loop μ-loop → tie.Start Inv-loop μ-loop
 start c = c .before .before .before .before .before
@@ -60,7 +60,7 @@ after-point c line other =
     let a = s .args in
     let v = c .before .visits-in .ensures in
     ap (λ (x : Asked). onAllNear x (asks s line other (i + 1) (count s - (i + 1)))) (c .ask-point .ensures line other ∙ (λ j. asks s line other i 1 (tally s (v j))))
-    ∙ sym (next-point line (a .points .now) other (a .theirs .now) (a .table .now) (toZ w64 (ofZ w64 (a .d))) (count s) i (tallyIn (a .allowance) (c .before .before .before .loop .came)) (c .before .before .loop-test .taken))
+    ∙ sym (next-point line (a .points .now) other (a .theirs .now .now) (a .table .now .now) (toZ w64 (ofZ w64 (a .d))) (count s) i (tallyIn (a .allowance) (c .before .before .before .loop .came)) (c .before .before .loop-test .taken))
     ∙ c .before .before .before .loop .inv .2 line other
 
 came-requires : tie.Need-came-requires Inv-loop μ-loop
@@ -81,7 +81,7 @@ visits-in-requires : tie.Need-visits-in-requires Inv-loop μ-loop
 visits-in-requires c κs = search needs
 
 ask-point-requires : tie.Need-ask-point-requires Inv-loop μ-loop
-ask-point-requires c κs = let p = c .before .before .before .before .pre in (omega (arith, c .before .loop-test .taken), p .0, stored-abs (p .1) tt)
+ask-point-requires c κs = let p = c .before .before .before .before .pre in (omega (arith, c .before .loop-test .taken), p .0, p .1, stored-abs (p .2) tt)
 
 end-in-requires : tie.Need-end-in-requires Inv-loop μ-loop
 end-in-requires c κs = search needs
@@ -120,7 +120,7 @@ returns-2 c line other =
     let r = c .before .loop .came in
     let e : count s - i ≡ 0 = omega (arith, c .loop-test .left) in
     is-near line other i (a .allowance) r (c .before .loop .inv .1)
-    ∙ no-point line (a .points .now) other (a .theirs .now) (a .table .now) (toZ w64 (ofZ w64 (a .d))) i (count s - i) (tallyIn (a .allowance) r) e
+    ∙ no-point line (a .points .now) other (a .theirs .now .now) (a .table .now .now) (toZ w64 (ofZ w64 (a .d))) i (count s - i) (tallyIn (a .allowance) r) e
     ∙ c .before .loop .inv .2 line other
     ∙ all-asked s line other
 

@@ -40,12 +40,12 @@ returns c line other =
     let a = s .args in
     ap (asked line other (a .i) (a .allowance)) (c .came .ensures)
     ∙ reads-off line other (a .i) (a .allowance) (a .visits)
-    ∙ one-point line (a .points .now) other (a .theirs .now) (a .table .now) (a .d) (a .i) (tally s) (sym (said (c .before .before)) ∙ not-true _ (c .before .if1 .taken))
+    ∙ one-point line (a .points .now) other (a .theirs .now .now) (a .table .now .now) (a .d) (a .i) (tally s) (sym (said (c .before .before)) ∙ not-true _ (c .before .if1 .taken))
 
 ask-requires : tie.Need-ask-requires
 ask-requires c κs =
     let p = c .before .before .before .pre in
-    (p .1, on-sheet _ (T-true (sym (c .before .on-sheet .ensures) ∙ not-false _ (c .if1 .left))), stored-abs (p .2) tt)
+    (p .1, p .2, on-sheet _ (T-true (sym (c .before .on-sheet .ensures) ∙ not-false _ (c .if1 .left))), stored-abs (p .3) tt)
 
 abbrev start : tie.After-ask → tie.Start
 start c = c .before .before .before .before
@@ -53,19 +53,19 @@ start c = c .before .before .before .before
 -- what the walk of the point comes to, whatever a second line is called
 walked : (c : tie.After-ask) (l m : Line)
     → cameTo tt tt l m (start c .args .allowance) (c .ask .result)
-    ≡ nearWalk l (start c .args .theirs .now) (start c .args .table .now) (point (start c .args .points .now) (start c .args .i)) (start c .args .d) (tally (start c))
+    ≡ nearWalk l (start c .args .theirs .now .now) (start c .args .table .now .now) (point (start c .args .points .now) (start c .args .i)) (start c .args .d) (tally (start c))
 walked c l m =
     let s = start c in
-    let d = stored (s .pre .2) tt in
+    let d = stored (s .pre .3) tt in
     let z = c .before .before .before .point-at .ensures in
-    c .ask .ensures l m ∙ (λ j. nearWalk l (s .args .theirs .now) (s .args .table .now) (z j) (d j) (tally s))
+    c .ask .ensures l m ∙ (λ j. nearWalk l (s .args .theirs .now .now) (s .args .table .now .now) (z j) (d j) (tally s))
 
 returns-2 : tie.Need-returns-2
 returns-2 c line other =
     let a = start c .args in
     let small : endIn (c .ask .result) < badSecond = one-line other (a .allowance) (c .ask .result) (walked c other) in
     heard line other (a .i) (a .allowance) (c .ask .result) (λ q. omega arith) (walked c other other)
-    ∙ one-point line (a .points .now) other (a .theirs .now) (a .table .now) (a .d) (a .i) (tally (start c)) (sym (said (c .before .before)) ∙ not-false _ (c .before .if1 .left))
+    ∙ one-point line (a .points .now) other (a .theirs .now .now) (a .table .now .now) (a .d) (a .i) (tally (start c)) (sym (said (c .before .before)) ∙ not-false _ (c .before .if1 .left))
 
 pub ask-point-spec : {M : Type 1} → statement M
 ask-point-spec =

@@ -1,25 +1,31 @@
--- `walk` takes one level of the written walk. The number of segments in the range falls.
+-- `walk` takes one level of the written walk. The number of segments in the range falls. A split off the sheet is refused
+-- in place of the left half, whose row it makes bad.
 use mathlib.Core.Path.{_≡_, refl, sym, _∙_, ap, subst}
 use mathlib.Core.Bool.{Bool, true, false, cond}
 use Prim.Native.Nat.{ℕ, zero, suc, pred, _+_, _-_, _<_, _≤_}
 use native.Mathlib.Omega.{arith}
-use borrow.Author.Tests.{leb-false}
-use lib.Dec.{eqb, leb}
+use borrow.Author.Tests.{leb-false, not-true, not-false}
+use lib.Dec.{T, eqb, leb}
+use Rattle.whole.specs.Order.{T-true}
 use Rattle.rules.specs.declared.Line.the-variants.{LineA}
 use Rattle.rules.specs.declared.Node.{Node}
 use Rattle.rules.specs.declared.Point.{Point}
 use Rattle.rules.specs.declared.Tally.{Tally}
 use Rattle.rules.specs.declared.Next.the-variants.{Left, Spent}
+use Rattle.rules.specs.Sheet.{point, onSheet}
 use Rattle.rules.specs.Walk.{next, Visit, Walked, ended, over, goOn}
 use Rattle.rules.specs.Walk.{walk as writtenWalk}
 use Rattle.rules.specs.Questions.{leftOf, rightOf, inVisit}
 use Rattle.visits.proofs.Levels.{none-left, visited, halved}
-use Rattle.row.specs.Came.{endIn, ENDED, tallyIn, cameTo}
+use Rattle.row.specs.Came.{endIn, ENDED, badRow, tallyIn, cameTo}
 use Rattle.row.proofs.Ends.{reads-ended, reads-spent, reads-bad, stops, goes, keeps}
-use Rattle.row.proofs.Places.{row-small, split-small, left-stands, right-stands}
+use Rattle.row.proofs.Parts.{end-off}
+use Rattle.row.proofs.Places.{row-small, split-small, left-stands, right-stands, left-ends, right-ends}
+use Rattle.row.proofs.Dues.{due-stops, reads-bad-due}
 use Rattle.inside.specs.declared.Step.{Step}
 use Rattle.inside.specs.declared.Step.the-variants.{Bad, Finish, Halve}
 use Rattle.inside.specs.Said.{stepVisit, SplitsInside}
+use Rattle.inside.proofs.Visits.{visit-bad}
 use Rattle.line.proofs.Stored.{readBack, point-stored, stored-on}
 use borrow.Fn.Kinds.{In}
 use borrow.Fn.PlainCycle.{Measures, is, falls, and}
@@ -30,11 +36,14 @@ use Rattle.inside.proofs.+walk.Lts-walk as walk-lts
 use Rattle.inside.proofs.add.Reads as add-reads
 use Rattle.inside.proofs.over.Reads as over-reads
 use Rattle.inside.proofs.visit.Reads as visit-reads
+use Rattle.line.proofs.on_sheet.Reads as on-sheet-reads
+use Rattle.line.proofs.point_at.Reads as point-at-reads
 use Rattle.row.proofs.bad_row.Reads as bad-row-reads
+use Rattle.row.proofs.bad_row_due.Reads as bad-row-due-reads
 use Rattle.row.proofs.came.Reads as came-reads
 use Rattle.row.proofs.end_in.Reads as end-in-reads
 use Rattle.row.proofs.stopped.Reads as stopped-reads
-use Rattle.row.proofs.tally_in.Reads as tally-in-reads
+use Rattle.row.proofs.visits_in.Reads as visits-in-reads
 use Rattle.rules.proofs.Tally.visit.Reads as Tally-visit-reads
 use Rattle.inside.proofs.+walk.{statement}
 use Rattle.inside.proofs.+walk.Tie.{close}
@@ -63,14 +72,20 @@ claims t = (
   add-reads.Learnt,
   over-reads.Asked,
   over-reads.Learnt,
+  point-at-reads.Asked,
+  point-at-reads.Learnt,
+  on-sheet-reads.Asked,
+  on-sheet-reads.Learnt,
+  bad-row-due-reads.Asked,
+  bad-row-due-reads.Learnt,
   walk-below t,
   walk.Post,
   stopped-reads.Asked,
   stopped-reads.Learnt,
   end-in-reads.Asked,
   end-in-reads.Learnt,
-  tally-in-reads.Asked,
-  tally-in-reads.Learnt,
+  visits-in-reads.Asked,
+  visits-in-reads.Learnt,
 )
 
 -- a walk that is over has an even count or an odd one
@@ -80,7 +95,8 @@ odd-or-even (suc zero) h = refl
 odd-or-even (suc (suc k)) h = absurd (omega arith)
 
 module _ (t : ℕ) where
-  -- the places of the code: at its start, after a visit, at a split, and once the left half is walked
+  -- the places of the code: at its start, after a visit, at a split, once its point is looked at, and once the left half is
+  -- walked
   abbrev Start : Type 0
   Start = walk-lts.Start (claims t) (walk-at t) walk.Post
 
@@ -89,6 +105,9 @@ module _ (t : ℕ) where
 
   abbrev Split : Type 0
   Split = walk-lts.After-known-told3 (claims t) (walk-at t) walk.Post
+
+  abbrev Looked : Type 0
+  Looked = walk-lts.After-on-sheet (claims t) (walk-at t) walk.Post
 
   abbrev LeftWalked : Type 0
   LeftWalked = walk-lts.After-walk (claims t) (walk-at t) walk.Post
@@ -99,6 +118,12 @@ module _ (t : ℕ) where
   abbrev seen : Split → Seen
   seen c = c .before .before .before
 
+  abbrev split : Looked → Split
+  split c = c .before .before .before
+
+  abbrev looking : LeftWalked → Looked
+  looking c = c .before .before
+
   -- the node and the point that the numbers make
   module _ (s : Start) where
     abbrev node : Node
@@ -106,6 +131,9 @@ module _ (t : ℕ) where
 
     abbrev z : Point
     z = record { x = s .args .x; y = s .args .y }
+
+    abbrev tally : Tally
+    tally = record { allowance = s .args .allowance; visits = s .args .visits }
 
     -- what a visit of a node does, the written walk from the node, and what a number is read as
     abbrev doesAt : Point → Node → Visit Bool Node
@@ -115,14 +143,14 @@ module _ (t : ℕ) where
     does = doesAt z
 
     abbrev walks : ℕ → Walked Bool
-    walks f = writtenWalk does f node (s .args .odd) (s .args .tally)
+    walks f = writtenWalk does f node (s .args .odd) tally
 
     abbrev read : ℕ → Walked Bool
-    read = cameTo false true LineA LineA (s .args .tally .allowance)
+    read = cameTo false true LineA LineA (s .args .allowance)
 
     -- the point's numbers are handed on as they are
     same : readBack z ≡ z
-    same = point-stored (s .pre .1 .1)
+    same = point-stored (s .pre .1 .2)
 
     some-level : (f : ℕ) → s .args .last ≤ f + s .args .first → 0 < f
     some-level f h = omega (arith, s .pre .1 .0 .some-segment)
@@ -131,11 +159,11 @@ module _ (t : ℕ) where
   abbrev counted : Seen → Tally
   counted c = c .before .before .before .before .counted .given .0 .0
 
-  made : (c : Seen) → next (start c .args .tally) ≡ Left (counted c)
+  made : (c : Seen) → next (tally (start c)) ≡ Left (counted c)
   made c = sym (c .before .before .before .before .before .before .visit .ensures) ∙ c .before .before .before .before .counted .given .1
 
-  kept : (c : Seen) → counted c .allowance ≡ start c .args .tally .allowance
-  kept c = keeps (start c .args .tally) (counted c) (made c)
+  kept : (c : Seen) → counted c .allowance ≡ start c .args .allowance
+  kept c = keeps (tally (start c)) (counted c) (made c)
 
   did : (c : Seen) {v : Step} → c .visit2 .result ≡ v → stepVisit (node (start c)) v ≡ does (start c) (node (start c))
   did c e =
@@ -156,13 +184,13 @@ module _ (t : ℕ) where
   returns : walk-lts.Need-returns (claims t) (walk-at t) walk.Post
   returns c f h =
       let s = c .before .before .before .before in
-      let e : next (s .args .tally) ≡ Spent = cc in
+      let e : next (tally s) ≡ Spent = cc in
       ap (read s) (c .came .ensures)
       ∙ reads-spent false true LineA LineA _ 0
-      ∙ none-left (does s) (node s) (s .args .odd) (s .args .tally) f (some-level s f h) e
+      ∙ none-left (does s) (node s) (s .args .odd) (tally s) f (some-level s f h) e
 
   visit-requires-2 : walk-lts.Need-visit-requires-2 (claims t) (walk-at t) walk.Post
-  visit-requires-2 c κs = let s = c .before .before .before .before .before .before in (s .pre .1 .0, stored-on (s .pre .1 .1))
+  visit-requires-2 c κs = let s = c .before .before .before .before .before .before in (s .pre .1 .0, s .pre .1 .1, stored-on (s .pre .1 .2))
 
   enum-told-2 : walk-lts.Need-enum-told-2 (claims t) (walk-at t) walk.Post
   enum-told-2 c = search needs
@@ -198,107 +226,156 @@ module _ (t : ℕ) where
   add-next : walk-lts.Need-add-next (claims t) (walk-at t) walk.Post
   add-next c = let small = row-small (start (seen c) .pre .1 .0) in omega arith
 
+  point-at-requires : walk-lts.Need-point-at-requires (claims t) (walk-at t) walk.Post
+  point-at-requires c κs =
+      let o = c .before in
+      let h = start (seen o) .pre .1 .0 in
+      let i = inner o in omega (arith, h .points-in, h .fine .whole-points, h .fine .some-points)
+
+  on-sheet-requires : walk-lts.Need-on-sheet-requires (claims t) (walk-at t) walk.Post
+  on-sheet-requires c κs = search needs
+
+  -- what was looked at is the point of the split
+  looked : (c : Looked) → c .on-sheet .result ≡ onSheet (point (start (seen (split c)) .args .points .now .now) (mid (split c)))
+  looked c = c .on-sheet .ensures ∙ ap onSheet (c .before .point-at .ensures)
+
+  next-small : (c : Split) → start (seen c) .args .row + 1 < 8193
+  next-small c = let h = inner c in row-small (left-stands (start (seen c) .pre .1 .0) (h .0) (h .1))
+
+  bad-row-due-requires : walk-lts.Need-bad-row-due-requires (claims t) (walk-at t) walk.Post
+  bad-row-due-requires c κs = next-small (split (c .before))
+
+  -- the right half, as it is left to do, with a count and a tally; after what the left half comes to, that makes the walk
+  abbrev onRight : Split → ℕ → Bool → Tally → Walked Bool
+  onRight c f odd v = let s = start (seen c) in writtenWalk (does s) (pred f) (rightOf (node s) (mid c)) odd v
+
+  after-left : (c : Split) (f : ℕ) (left : ℕ) → start (seen c) .args .last ≤ f + start (seen c) .args .first
+      → read (start (seen c)) left ≡ writtenWalk (does (start (seen c))) (pred f) (leftOf (node (start (seen c))) (mid c)) (start (seen c) .args .odd) (counted (seen c))
+      → goOn (read (start (seen c)) left) (onRight c f) ≡ walks (start (seen c)) f
+  after-left c f left h p =
+      let s = start (seen c) in
+      halved (does s) (node s) (s .args .odd) (tally s) f (some-level s f h) (made (seen c)) (did (seen c) (c .before .mid .given .1)) p
+
+  returns-2 : walk-lts.Need-returns-2 (claims t) (walk-at t) walk.Post
+  returns-2 c f h =
+      let k = c .before .before in
+      let o = split k in
+      let s = start (seen o) in
+      let i = inner o in
+      let l = leftOf (node s) (mid o) in
+      let v = counted (seen o) in
+      let small = next-small o in
+      let e = c .bad-row-due .ensures in
+      let off = end-off (s .args .points .now .now) _ (s .args .first) (mid o) (sym (looked k) ∙ not-true _ (c .before .if1 .taken)) in
+      let bad = visit-bad (s .args .points .now .now) (s .args .table .now .now) (z s) l _ refl off in
+      sym (stops false true LineA LineA _ (c .bad-row-due .result) _ (ap (λ r. leb ENDED (endIn r)) e ∙ due-stops (next v) (badRow + l .row) (omega arith) (omega arith)))
+      ∙ after-left o f (c .bad-row-due .result) h
+      ((λ d. cameTo false true LineA LineA (sym (kept (seen o)) d) (e d)) ∙ reads-bad-due false true LineA LineA (does s) l (s .args .odd) v (pred f) (omega arith) (l .row) small bad)
+
+  -- else both halves begin and end on the sheet
+  split-on : (c : Looked) → c .on-sheet .result ≡ true → T (onSheet (point (start (seen (split c)) .args .points .now .now) (mid (split c))))
+  split-on c e = T-true (sym (looked c) ∙ e)
+
   walk-requires : walk-lts.Need-walk-requires (claims t) (walk-at t) walk.Post
   walk-requires c κs =
-      let s = start (seen c) in
-      let h = inner c in (omega (arith, s .pre .0), (left-stands (s .pre .1 .0) (h .0) (h .1), stored-on (s .pre .1 .1)))
+      let o = split (c .before) in
+      let s = start (seen o) in
+      let h = inner o in
+      let on = split-on (c .before) (not-false _ (c .if1 .left)) in
+      (omega (arith, s .pre .0), (left-stands (s .pre .1 .0) (h .0) (h .1), left-ends (s .pre .1 .1) on, stored-on (s .pre .1 .2)))
 
   stopped-requires : walk-lts.Need-stopped-requires (claims t) (walk-at t) walk.Post
   stopped-requires c κs = search needs
 
-  -- the right half, as it is left to do, with a count and a tally; after the left half that makes the walk
-  abbrev onRight : Split → ℕ → Bool → Tally → Walked Bool
-  onRight c f odd v = let s = start (seen c) in writtenWalk (does s) (pred f) (rightOf (node s) (mid c)) odd v
-
-  after-left : (c : LeftWalked) (f : ℕ) → start (seen (c .before)) .args .last ≤ f + start (seen (c .before)) .args .first
-      → goOn (read (start (seen (c .before))) (c .walk .result)) (onRight (c .before) f) ≡ walks (start (seen (c .before))) f
-  after-left c f h =
-      let o = c .before in
+  left-walked : (c : LeftWalked) (f : ℕ) → start (seen (split (looking c))) .args .last ≤ f + start (seen (split (looking c))) .args .first
+      → goOn (read (start (seen (split (looking c)))) (c .walk .result)) (onRight (split (looking c)) f) ≡ walks (start (seen (split (looking c)))) f
+  left-walked c f h =
+      let o = split (looking c) in
       let s = start (seen o) in
       let i = inner o in
-      let p = c .walk .ensures (pred f) (omega arith) in
-      halved (does s) (node s) (s .args .odd) (s .args .tally) f (some-level s f h) (made (seen o)) (did (seen o) (o .before .mid .given .1))
-      (ap (λ k. cameTo false true LineA LineA k (c .walk .result)) (sym (kept (seen o))) ∙ p ∙ (λ d. writtenWalk (doesAt s (same s d)) (pred f) (leftOf (node s) (mid o)) (s .args .odd) (counted (seen o))))
+      after-left o f (c .walk .result) h
+      (c .walk .ensures (pred f) (omega arith) ∙ (λ d. writtenWalk (doesAt s (same s d)) (pred f) (leftOf (node s) (mid o)) (s .args .odd) (record { allowance = sym (kept (seen o)) d; visits = counted (seen o) .visits })))
 
-  returns-2 : walk-lts.Need-returns-2 (claims t) (walk-at t) walk.Post
-  returns-2 c f h =
+  returns-3 : walk-lts.Need-returns-3 (claims t) (walk-at t) walk.Post
+  returns-3 c f h =
       let k = c .before in
-      sym (stops false true LineA LineA _ (k .before .walk .result) _ (sym (k .stopped .ensures) ∙ c .if1 .taken)) ∙ after-left (k .before) f h
+      sym (stops false true LineA LineA _ (k .before .walk .result) _ (sym (k .stopped .ensures) ∙ c .if2 .taken)) ∙ left-walked (k .before) f h
 
   sub-right : walk-lts.Need-sub-right (claims t) (walk-at t) walk.Post
-  sub-right c = let h = inner (c .before .before .before) in omega arith
+  sub-right c = let h = inner (split (looking (c .before .before))) in omega arith
 
   mul-right : walk-lts.Need-mul-right (claims t) (walk-at t) walk.Post
   mul-right c =
-      let o = c .before .before .before in
+      let o = split (looking (c .before .before)) in
       let h = inner o in
       let small = split-small (start (seen o) .pre .1 .0) (h .0) (h .1) in omega arith
 
   add-right : walk-lts.Need-add-right (claims t) (walk-at t) walk.Post
   add-right c =
-      let o = c .before .before .before in
+      let o = split (looking (c .before .before)) in
       let h = inner o in
       let p = start (seen o) .pre .1 .0 in
       let low = row-small p in
       let small = split-small p (h .0) (h .1) in omega arith
 
-  tally-in-requires : walk-lts.Need-tally-in-requires (claims t) (walk-at t) walk.Post
-  tally-in-requires c κs = search needs
-
   end-in-requires : walk-lts.Need-end-in-requires (claims t) (walk-at t) walk.Post
   end-in-requires c κs = search needs
 
+  visits-in-requires : walk-lts.Need-visits-in-requires (claims t) (walk-at t) walk.Post
+  visits-in-requires c κs = search needs
+
   walk-requires-2 : walk-lts.Need-walk-requires-2 (claims t) (walk-at t) walk.Post
   walk-requires-2 c κs =
-      let o = c .before .before .before .before .before in
+      let w = c .before .before .before .before in
+      let o = split (looking w) in
       let s = start (seen o) in
-      let h = inner o in (omega (arith, s .pre .0), (right-stands (s .pre .1 .0) (h .0) (h .1), stored-on (s .pre .1 .1)))
+      let h = inner o in
+      let on = split-on (looking w) (not-false _ (w .before .if1 .left)) in
+      (omega (arith, s .pre .0), (right-stands (s .pre .1 .0) (h .0) (h .1), right-ends (s .pre .1 .1) on, stored-on (s .pre .1 .2)))
 
-  returns-3 : walk-lts.Need-returns-3 (claims t) (walk-at t) walk.Post
-  returns-3 c f h =
+  returns-4 : walk-lts.Need-returns-4 (claims t) (walk-at t) walk.Post
+  returns-4 c f h =
       let w = c .before .before .before in
       let s = start w in
       let e : w .visit2 .result ≡ Bad = cc in
       ap (read s) (c .bad-row .ensures)
       ∙ reads-bad false true LineA LineA _ _ (s .args .row) (row-small (s .pre .1 .0))
-      ∙ visited (does s) (node s) (s .args .odd) (s .args .tally) f (some-level s f h) (made w) (did w e)
+      ∙ visited (does s) (node s) (s .args .odd) (tally s) f (some-level s f h) (made w) (did w e)
 
-  returns-4 : walk-lts.Need-returns-4 (claims t) (walk-at t) walk.Post
-  returns-4 c f h =
+  returns-5 : walk-lts.Need-returns-5 (claims t) (walk-at t) walk.Post
+  returns-5 c f h =
       let w = c .before .before .before in
       let s = start w in
       let e : w .visit2 .result ≡ Finish = cc in
       ap (read s) (c .came2 .ensures)
       ∙ reads-ended false true LineA LineA _ _
       ∙ ap (λ k. ended (record { allowance = k; visits = counted w .visits })) (sym (kept w))
-      ∙ visited (does s) (node s) (s .args .odd) (s .args .tally) f (some-level s f h) (made w) (did w e)
+      ∙ visited (does s) (node s) (s .args .odd) (tally s) f (some-level s f h) (made w) (did w e)
 
-  returns-5 : walk-lts.Need-returns-5 (claims t) (walk-at t) walk.Post
-  returns-5 c f h =
+  returns-6 : walk-lts.Need-returns-6 (claims t) (walk-at t) walk.Post
+  returns-6 c f h =
       let w = c .before .before .before .before .before in
       let s = start w in
       c .over .ensures _
       ∙ (λ d. over (c .before .add .ensures d) (record { allowance = sym (kept w) d; visits = counted w .visits }))
-      ∙ visited (does s) (node s) (s .args .odd) (s .args .tally) f (some-level s f h) (made w) (did w (c .before .before .before .crossed .given .1))
+      ∙ visited (does s) (node s) (s .args .odd) (tally s) f (some-level s f h) (made w) (did w (c .before .before .before .crossed .given .1))
 
-  returns-6 : walk-lts.Need-returns-6 (claims t) (walk-at t) walk.Post
-  returns-6 c f h =
+  returns-7 : walk-lts.Need-returns-7 (claims t) (walk-at t) walk.Post
+  returns-7 c f h =
       let n = c .before in
       let e = n .before in
       let k = e .before .before in
       let w = k .before in
-      let o = w .before in
+      let o = split (looking w) in
       let s = start (seen o) in
       let i = inner o in
       let left = w .walk .result in
-      let goes-on : leb ENDED (endIn left) ≡ false = sym (k .stopped .ensures) ∙ e .before .if1 .left in
-      ap (λ q. cameTo false true LineA LineA q (c .walk2 .result)) (sym (ap (λ (v : Tally). v .allowance) (n .tally-in .ensures) ∙ kept (seen o)))
-      ∙ c .walk2 .ensures (pred f) (omega arith)
-      ∙ (λ d. writtenWalk (doesAt s (same s d)) (pred f) (rightOf (node s) (mid o)) (eqb (e .end-in .ensures d) 1) (n .tally-in .ensures d))
-      ∙ ap (λ q. onRight o f (eqb (endIn left) 1) (tallyIn q left)) (kept (seen o))
-      ∙ (λ d. onRight o f (odd-or-even (endIn left) (leb-false ENDED (endIn left) goes-on) d) (tallyIn (s .args .tally .allowance) left))
+      let goes-on : leb ENDED (endIn left) ≡ false = sym (k .stopped .ensures) ∙ e .before .if2 .left in
+      c .walk2 .ensures (pred f) (omega arith)
+      ∙ (λ d. writtenWalk (doesAt s (same s d)) (pred f) (rightOf (node s) (mid o)) (eqb (e .end-in .ensures d) 1) (record { allowance = s .args .allowance; visits = n .visits-in .ensures d }))
+      ∙ (λ d. onRight o f (odd-or-even (endIn left) (leb-false ENDED (endIn left) goes-on) d) (tallyIn (s .args .allowance) left))
       ∙ sym (goes false true LineA LineA _ left (onRight o f) goes-on)
-      ∙ after-left w f h
+      ∙ left-walked w f h
 
 pub +walk-spec : {M : Type 1} → statement M
 +walk-spec =
@@ -319,16 +396,20 @@ pub +walk-spec : {M : Type 1} → statement M
     (over-requires t)
     (enum-known-mid t)
     (add-next t)
+    (point-at-requires t)
+    (on-sheet-requires t)
+    (bad-row-due-requires t)
+    (returns-2 t)
     (walk-requires t)
     (stopped-requires t)
-    (returns-2 t)
+    (returns-3 t)
     (sub-right t)
     (mul-right t)
     (add-right t)
     (end-in-requires t)
-    (tally-in-requires t)
+    (visits-in-requires t)
     (walk-requires-2 t)
-    (returns-3 t)
     (returns-4 t)
     (returns-5 t)
     (returns-6 t)
+    (returns-7 t)

@@ -1,37 +1,19 @@
--- `visit` reads the row and goes by the cases of the definition; a good row has its end points on the sheet, and its split
--- inside the node.
+-- `visit` reads the row and the end points, which are on the sheet, and goes by the cases of the definition.
 use mathlib.Core.Path.{_≡_, sym, _∙_, subst}
+use mathlib.Core.Bool.{true}
+use native.Mathlib.Omega.{arith}
 use borrow.Author.Tests.{not-true, not-false, le-leb, lt-leb}
-use Rattle.whole.specs.Order.{T-true}
-use Rattle.rules.specs.declared.Line.the-variants.{LineA}
-use Rattle.rules.specs.Walk.{halve}
-use Rattle.rules.specs.Questions.{clearOf}
-use Rattle.visits.proofs.Nodes.{GoodRow, good-read}
-use Rattle.visits.specs.Small.{OnSheet, Small}
-use Rattle.row.proofs.Places.{opens}
-use borrow.Author.Needs.{needs}
+use Rattle.visits.specs.Small.{OnSheet}
 use Rattle.visits.proofs.OnSheets.{on-sheet}
-use Rattle.visits.proofs.Sizes.{direction-small}
-use Rattle.inside.specs.declared.Step.the-variants.{Halve}
-use Rattle.inside.specs.Said.{SplitsInside}
-use Rattle.inside.proofs.Visits.{RowRead, isClear, visit-bad, visit-clear, visit-leaf, visit-open}
+use borrow.Author.Needs.{needs}
+use Rattle.inside.proofs.Visits.{RowRead, frame, frame-bad, leaf-visit, inner-visit}
 use Rattle.inside.proofs.visit.Statement.{statement}
 use Rattle.inside.proofs.visit.Tie as tie
 
--- ---------------- the row that was read
+-- ---------------- the row and the end points that were read
 row-at-requires : tie.Need-row-at-requires
 row-at-requires c κs = search needs
 
-row-good-requires : tie.Need-row-good-requires
-row-good-requires c κs = search needs
-
-returns : tie.Need-returns
-returns c =
-    let a = c .before .before .before .args in
-    let bad = sym (c .before .row-good .ensures) ∙ not-true _ (c .if1 .taken) in
-    (visit-bad (a .points .now) (a .table .now) (a .z) (a .node) _ (c .before .before .row-at .ensures) bad, tt)
-
--- ---------------- its end points, and whether z is clear of it
 point-at-requires : tie.Need-point-at-requires
 point-at-requires c κs = search needs
 
@@ -39,90 +21,72 @@ point-at-requires-2 : tie.Need-point-at-requires-2
 point-at-requires-2 c κs = search needs
 
 abbrev start : tie.After-point-at2 → tie.Start
-start c = c .before .before .before .before .before
+start c = c .before .before .before
 
 abbrev read : (c : tie.After-point-at2) → RowRead (start c .args .points .now) (start c .args .table .now) (start c .args .node)
 read c = record {
-  row = c .before .before .before .before .row-at .result;
+  row = c .before .before .row-at .result;
   start = c .before .point-at .result;
   end = c .point-at2 .result;
-  row-is = c .before .before .before .before .row-at .ensures;
+  row-is = c .before .before .row-at .ensures;
   start-is = c .before .point-at .ensures;
   end-is = c .point-at2 .ensures;
-  fine = sym (c .before .before .before .row-good .ensures) ∙ not-false _ (c .before .before .if1 .left);
+  stands = start c .pre .0;
+  ends-on = start c .pre .1;
 }
 
-good-row : (c : tie.After-point-at2) → GoodRow (start c .args .points .now) (read c .row) (start c .args .node .first) (start c .args .node .last)
-good-row c = good-read _ _ _ _ (T-true (read c .fine))
+on : (c : tie.After-point-at2) → OnSheet (read c .start) × OnSheet (read c .end) × OnSheet (start c .args .z)
+on c =
+    let m = read c in
+    (subst OnSheet (sym (m .start-is)) (on-sheet _ (m .ends-on .start-on)), subst OnSheet (sym (m .end-is)) (on-sheet _ (m .ends-on .end-on)), start c .pre .2)
 
-start-on : (c : tie.After-point-at2) → OnSheet (read c .start)
-start-on c = subst OnSheet (sym (read c .start-is)) (on-sheet _ (good-row c .start-on))
+-- ---------------- its frame
+frame-good-requires : tie.Need-frame-good-requires
+frame-good-requires c κs = search needs
 
-end-on : (c : tie.After-point-at2) → OnSheet (read c .end)
-end-on c = subst OnSheet (sym (read c .end-is)) (on-sheet _ (good-row c .end-on))
+returns : tie.Need-returns
+returns c =
+    let p = c .before .before in
+    frame-bad _ _ (start p .args .z) _ (read p) (sym (c .before .frame-good .ensures) ∙ not-true _ (c .if1 .taken))
 
-direction-requires : tie.Need-direction-requires
-direction-requires c κs = (start-on c, end-on c)
+framed : (c : tie.Else1) → frame _ _ (start (c .before .before) .args .z) _ (read (c .before .before)) ≡ true
+framed c = sym (c .before .frame-good .ensures) ∙ not-false _ (c .if1 .left)
 
-clear-of-requires : tie.Need-clear-of-requires
-clear-of-requires c κs =
-    let p = c .before in (start-on p, subst Small (sym (c .direction .ensures)) (direction-small (start-on p) (end-on p)), start p .pre .1)
+-- ---------------- a leaf, or a node of more segments
+add-if2 : tie.Need-add-if2
+add-if2 c = search needs
 
-clear-told : (c : tie.After-clear-of) → c .clear-of .result ≡ isClear _ _ (start (c .before .before) .args .z) _ (read (c .before .before))
-clear-told c =
-    let m = read (c .before .before) in
-    c .clear-of .ensures ∙ (λ d. clearOf (m .row) (m .start) (c .before .direction .ensures d) (start (c .before .before) .args .z))
-
-crosses-requires : tie.Need-crosses-requires
-crosses-requires c κs = let p = c .before .before .before in (start p .pre .1, start-on p, end-on p)
+visit-leaf-requires : tie.Need-visit-leaf-requires
+visit-leaf-requires c κs = on (c .before .before .before)
 
 returns-2 : tie.Need-returns-2
 returns-2 c =
-    let k = c .before .before in
-    let p = k .before .before in
-    (visit-clear _ _ (start p .args .z) _ (read p) _ (sym (clear-told k) ∙ c .before .if2 .taken) (c .crosses .ensures), tt)
+    let f = c .before .before in
+    let p = f .before .before in
+    leaf-visit _ _ (start p .args .z) _ (read p) (framed f) (le-leb _ _ (c .before .if2 .taken)) (c .visit-leaf .ensures)
 
--- ---------------- a leaf
-add-if3 : tie.Need-add-if3
-add-if3 c = search needs
-
-test-leaf-requires : tie.Need-test-leaf-requires
-test-leaf-requires c κs = let p = c .before .before .before .before in (start p .pre .1, start-on p, end-on p)
+visit-inner-requires : tie.Need-visit-inner-requires
+visit-inner-requires c κs =
+    let p = c .before .before .before in
+    let h = start p .pre .0 in ((h .some-segment, omega (arith, h .points-in, h .fine .not-more)), on p)
 
 returns-3 : tie.Need-returns-3
 returns-3 c =
-    let k = c .before .before .before in
-    let p = k .before .before in
-    visit-leaf _ _ (start p .args .z) _ (read p) _ (sym (clear-told k) ∙ c .before .before .if2 .left) (le-leb _ _ (c .before .if3 .taken)) (c .test-leaf .ensures)
-
--- ---------------- a split
-split-of-requires : tie.Need-split-of-requires
-split-of-requires c κs = good-row (c .before .before .before .before) .split-above (c .if3 .left)
-
-returns-4 : tie.Need-returns-4
-returns-4 c =
-    let e = c .before in
-    let k = e .before .before in
-    let p = k .before .before in
-    let inner : SplitsInside (start p .args .node) (Halve (c .split-of .result)) = rw (c .split-of .ensures) (good-row p .split-between (e .if3 .left)) in
-    let opened = visit-open _ _ (start p .args .z) _ (read p) _ (sym (clear-told k) ∙ e .before .if2 .left) (lt-leb _ _ (e .if3 .left)) (c .split-of .ensures) in
-    (sym (opens (start p .pre .0) (inner .0) (inner .1) LineA halve) ∙ opened, inner)
+    let f = c .before .before in
+    let p = f .before .before in
+    inner-visit _ _ (start p .args .z) _ (read p) (framed f) (lt-leb _ _ (c .before .if2 .left)) (c .visit-inner .ensures)
 
 pub visit-spec : {M : Type 1} → statement M
 visit-spec =
     tie.close
     (tie.spec
     row-at-requires
-    row-good-requires
-    returns
     point-at-requires
     point-at-requires-2
-    direction-requires
-    clear-of-requires
-    crosses-requires
+    frame-good-requires
+    returns
+    add-if2
+    visit-leaf-requires
     returns-2
-    add-if3
-    test-leaf-requires
-    returns-3
-    split-of-requires
-    returns-4)
+    visit-inner-requires
+    returns-3)

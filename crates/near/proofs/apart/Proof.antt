@@ -27,7 +27,6 @@ returns c =
     let s = c .before .before .before .before in
     let a = s .args .a in
     let b = s .args .b in
-    let d = s .args .d in
     let h = step-small (s .pre .0) (s .pre .1) in
     let e = c .before .before .before .step .ensures in
     let u : Small (c .before .before .before .step .result) = subst Small (sym e) h in
@@ -35,8 +34,8 @@ returns c =
     let ey = stored (u .y-in) tt ∙ ap (λ (p : Point). p .y) e in
     let ed = stored (s .pre .2) tt in
     c .farther .ensures
-    ∙ (λ i. ltZ (ed i *ℤ ed i *ℤ pos 1) (ex i *ℤ ex i +ℤ ey i *ℤ ey i))
-    ∙ ap (λ (m : ℤ). ltZ m (size² (step a b))) (one-r (d *ℤ d))
+    ∙ (λ i. ltZ (ed i *ℤ pos 1) (ex i *ℤ ex i +ℤ ey i *ℤ ey i))
+    ∙ ap (λ (m : ℤ). ltZ m (size² (step a b))) (one-r (s .args .reach))
 
 pub apart-spec : {M : Type 1} → statement M
 apart-spec = tie.close (tie.spec step-requires farther-requires returns)

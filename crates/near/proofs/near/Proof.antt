@@ -1,6 +1,7 @@
 -- `near` asks the checks in the order of the list; where none refuses, the walk answers.
 use mathlib.Core.Path.{_≡_, refl, sym, _∙_, ap}
 use mathlib.Core.Bool.{true}
+use mathlib.Core.List.{List}
 use mathlib.Core.Option.{Option, none}
 use borrow.Author.Tests.{not-true, not-false}
 use lib.IntN.{ℤ}
@@ -13,9 +14,10 @@ use Rattle.rules.specs.declared.Refusal.{Refusal}
 use Rattle.rules.specs.Sheet.{distanceFits, onSheet}
 use Rattle.rules.specs.Reply.{firstRefusal, answerReply}
 use Rattle.rules.specs.Rows.{lengthChecks}
-use Rattle.rules.specs.Walk.{fresh}
-use Rattle.rules.specs.Questions.{yesOrNo, nearWalk}
+use Rattle.rules.specs.Walk.{Walked, fresh}
+use Rattle.rules.specs.Questions.{Nothing, yesOrNo, nearWalk, nearReply}
 use Rattle.line.specs.declared.Checked.the-variants.{Fine}
+use Rattle.line.specs.Fine.{LengthsFine}
 use Rattle.line.specs.Said.{checkedRefusal}
 use Rattle.visits.proofs.OnSheets.{on-sheet}
 use Rattle.line.proofs.Stored.{stored-abs}
@@ -26,12 +28,22 @@ use borrow.Author.Needs.{needs}
 use Rattle.near.proofs.near.Statement.{statement}
 use Rattle.near.proofs.near.Tie as tie
 
+-- the line and the table, which the walk is handed by reference
+abbrev ps : tie.Start → List ℤ
+ps s = s .args .t1 .now
+
+abbrev rows : tie.Start → List ℤ
+rows s = s .args .t2 .now
+
 -- ---------------- what each check said
 abbrev lengthsRefusal : tie.Start → Option Refusal
-lengthsRefusal s = firstRefusal (lengthChecks LineA (s .args .points .now) (s .args .table .now))
+lengthsRefusal s = firstRefusal (lengthChecks LineA (ps s) (rows s))
 
 fine : (c : tie.After-enum-told) → lengthsRefusal (c .before .before .before) ≡ none
 fine c = let e : c .before .before .check-lengths .result ≡ Fine = cc in sym (c .before .before .check-lengths .ensures) ∙ ap checkedRefusal e
+
+lengths : (c : tie.After-enum-told) → LengthsFine (ps (c .before .before .before)) (rows (c .before .before .before))
+lengths c = lengths-fine LineA _ _ (fine c)
 
 distance-said : (c : tie.After-distance-fits) → c .distance-fits .result ≡ distanceFits (c .before .before .before .before .args .distance)
 distance-said c = c .distance-fits .ensures ∙ ap distanceFits (toZ-ofZ {w = w64} (c .before .before .before .before .fits .distance))
@@ -44,8 +56,9 @@ enum-known-checked c = search needs
 
 returns : tie.Need-returns
 returns c =
-    let a = c .before .before .before .before .args in
-    near-checked (a .points .now) (a .table .now) (a .z) (a .distance) (a .allowance) (sym (c .before .before .before .check-lengths .ensures) ∙ ap checkedRefusal (c .before .checked .given .1)) refl refl
+    let s = c .before .before .before .before in
+    let a = s .args in
+    near-checked (ps s) (rows s) (a .z) (a .distance) (a .allowance) (sym (c .before .before .before .check-lengths .ensures) ∙ ap checkedRefusal (c .before .checked .given .1)) refl refl
 
 enum-told : tie.Need-enum-told
 enum-told c = search needs
@@ -58,9 +71,10 @@ early-requires c κs = search needs
 
 returns-2 : tie.Need-returns-2
 returns-2 c =
-    let a = c .before .before .before .before .before .before .args in
+    let s = c .before .before .before .before .before .before in
+    let a = s .args in
     ap (λ (r : Refusal). answerReply (Refused r)) (c .early .ensures)
-    ∙ near-checked (a .points .now) (a .table .now) (a .z) (a .distance) (a .allowance) (fine (c .before .before .before)) (sym (distance-said (c .before .before)) ∙ not-true _ (c .before .if1 .taken)) refl
+    ∙ near-checked (ps s) (rows s) (a .z) (a .distance) (a .allowance) (fine (c .before .before .before)) (sym (distance-said (c .before .before)) ∙ not-true _ (c .before .if1 .taken)) refl
 
 on-sheet-requires : tie.Need-on-sheet-requires
 on-sheet-requires c κs = search needs
@@ -74,28 +88,42 @@ fits c = sym (distance-said (c .before)) ∙ not-false _ (c .if1 .left)
 
 returns-3 : tie.Need-returns-3
 returns-3 c =
-    let a = c .before .before .before .before .before .before .before .before .args in
+    let s = c .before .before .before .before .before .before .before .before in
+    let a = s .args in
     ap (λ (r : Refusal). answerReply (Refused r)) (c .early2 .ensures)
-    ∙ near-checked (a .points .now) (a .table .now) (a .z) (a .distance) (a .allowance) (fine (c .before .before .before .before .before)) (fits (c .before .before .before)) (sym (c .before .before .on-sheet .ensures) ∙ not-true _ (c .before .if2 .taken))
+    ∙ near-checked (ps s) (rows s) (a .z) (a .distance) (a .allowance) (fine (c .before .before .before .before .before)) (fits (c .before .before .before)) (sym (c .before .before .on-sheet .ensures) ∙ not-true _ (c .before .if2 .taken))
 
-on : (c : tie.Else2) → onSheet (c .before .before .before .before .before .before .before .args .z) ≡ true
+abbrev start : tie.Else2 → tie.Start
+start c = c .before .before .before .before .before .before .before
+
+on : (c : tie.Else2) → onSheet (start c .args .z) ≡ true
 on c = sym (c .before .on-sheet .ensures) ∙ not-false _ (c .if2 .left)
 
-ask-requires : tie.Need-ask-requires
-ask-requires c κs =
-    let d = c .before .before .before .before .before .before .before .args .distance in
-    (lengths-fine _ _ _ (fine (c .before .before .before .before)), on-sheet _ (T-true (on c)), stored-abs (distance-abs d (T-true (fits (c .before .before)))) tt)
+-- ---------------- where no check refused, the reply is that of the walk
+answered : (c : tie.Else2) {w : Walked Nothing}
+    → w ≡ nearWalk LineA (ps (start c)) (rows (start c)) (start c .args .z) (start c .args .distance) (fresh (start c .args .allowance))
+    → yesOrNo (start c .args .allowance) w ≡ nearReply (ps (start c)) (rows (start c)) (start c .args .z) (start c .args .distance) (start c .args .allowance)
+answered c e =
+    let s = start c in
+    let a = s .args in
+    ap (yesOrNo (a .allowance)) e
+    ∙ near-checked (ps s) (rows s) (a .z) (a .distance) (a .allowance) (fine (c .before .before .before .before)) (fits (c .before .before)) (on c)
+
+ask-any-requires : tie.Need-ask-any-requires
+ask-any-requires c κs =
+    let k = c .before .before in
+    (lengths (k .before .before .before .before), on-sheet _ (T-true (on k)), stored-abs (distance-abs (start k .args .distance) (T-true (fits (k .before .before)))) tt)
 
 answer-requires : tie.Need-answer-requires
 answer-requires c κs = search needs
 
 returns-4 : tie.Need-returns-4
 returns-4 c =
-    let s = c .before .before .before .before .before .before .before .before .before in
+    let k = c .before .before .before .before in
+    let s = start k in
     let a = s .args in
     c .answer .ensures
-    ∙ ap (yesOrNo (a .allowance)) (c .before .ask .ensures LineA LineB ∙ ap (λ (d : ℤ). nearWalk LineA (a .points .now) (a .table .now) (a .z) d (fresh (a .allowance))) (toZ-ofZ {w = w64} (s .fits .distance)))
-    ∙ near-checked (a .points .now) (a .table .now) (a .z) (a .distance) (a .allowance) (fine (c .before .before .before .before .before .before)) (fits (c .before .before .before .before)) (on (c .before .before))
+    ∙ answered k (c .before .ask-any .ensures LineA LineB ∙ ap (λ (d : ℤ). nearWalk LineA (ps s) (rows s) (a .z) d (fresh (a .allowance))) (toZ-ofZ {w = w64} (s .fits .distance)))
 
 pub near-spec : {M : Type 1} → statement M
 near-spec =
@@ -111,6 +139,6 @@ near-spec =
     on-sheet-requires
     early-requires-2
     returns-3
-    ask-requires
+    ask-any-requires
     answer-requires
     returns-4)

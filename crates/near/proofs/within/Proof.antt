@@ -39,12 +39,12 @@ apart-requires : tie.Need-apart-requires
 apart-requires c κs = let p = c .before .before .before .pre in (p .1, p .0, stored-abs (p .3) tt)
 
 returns : tie.Need-returns
-returns c =
+returns c D e =
     let s = c .before .before .before .before in
     let t = t-read (c .before .before) in
-    let d = stored (s .pre .3) tt in
-    ap not (c .apart .ensures ∙ (λ i. ltZ (d i *ℤ d i) (size² (step (s .args .a) (s .args .z)))))
-    ∙ within-start (s .args .z) (s .args .a) (s .args .b) (s .args .d) (sym (λ i. leZ (t i) (pos 0)) ∙ c .before .if1 .taken)
+    let d = stored (s .pre .3) tt ∙ e in
+    ap not (c .apart .ensures ∙ (λ i. ltZ (d i) (size² (step (s .args .a) (s .args .z)))))
+    ∙ within-start (s .args .z) (s .args .a) (s .args .b) D (sym (λ i. leZ (t i) (pos 0)) ∙ c .before .if1 .taken)
 
 size2-requires : tie.Need-size2-requires
 size2-requires c κs = step-is-small (c .before .before)
@@ -53,13 +53,13 @@ apart-requires-2 : tie.Need-apart-requires-2
 apart-requires-2 c κs = let p = c .before .before .before .before .before .pre in (p .2, p .0, stored-abs (p .3) tt)
 
 returns-2 : tie.Need-returns-2
-returns-2 c =
+returns-2 c D e =
     let s = c .before .before .before .before .before .before in
     let t = t-read (c .before .before .before .before) in
     let v = size-read (c .before .before) in
-    let d = stored (s .pre .3) tt in
-    ap not (c .apart2 .ensures ∙ (λ i. ltZ (d i *ℤ d i) (size² (step (s .args .b) (s .args .z)))))
-    ∙ within-end (s .args .z) (s .args .a) (s .args .b) (s .args .d) (sym (λ i. leZ (t i) (pos 0)) ∙ c .before .before .before .if1 .left) (sym (λ i. leZ (v i) (t i)) ∙ c .before .if2 .taken)
+    let d = stored (s .pre .3) tt ∙ e in
+    ap not (c .apart2 .ensures ∙ (λ i. ltZ (d i) (size² (step (s .args .b) (s .args .z)))))
+    ∙ within-end (s .args .z) (s .args .a) (s .args .b) D (sym (λ i. leZ (t i) (pos 0)) ∙ c .before .before .before .if1 .left) (sym (λ i. leZ (v i) (t i)) ∙ c .before .if2 .taken)
 
 c-at-requires : tie.Need-c-at-requires
 c-at-requires c κs = let s = c .before .before .before .before .before in (s .pre .1, step-is-small (c .before .before .before .before), s .pre .0)
@@ -75,14 +75,14 @@ farther-requires c κs =
     )
 
 returns-3 : tie.Need-returns-3
-returns-3 c =
+returns-3 c D e =
     let s = c .before .before .before .before .before .before .before in
     let t = t-read (c .before .before .before .before .before) in
     let v = size-read (c .before .before .before) in
-    let d = stored (s .pre .3) tt in
-    let e = result w64 (c .before .c-at .ok) (c .before .c-at .ensures ∙ ap (λ (u : Point). cAt (s .args .a) u (s .args .z)) (c .before .before .before .before .before .before .step .ensures)) in
-    ap not (c .farther .ensures ∙ (λ i. ltZ (d i *ℤ d i *ℤ v i) (e i *ℤ e i +ℤ pos 0)))
-    ∙ within-along (s .args .z) (s .args .a) (s .args .b) (s .args .d) (sym (λ i. leZ (t i) (pos 0)) ∙ c .before .before .before .before .if1 .left) (sym (λ i. leZ (v i) (t i)) ∙ c .before .before .if2 .left)
+    let d = stored (s .pre .3) tt ∙ e in
+    let k = result w64 (c .before .c-at .ok) (c .before .c-at .ensures ∙ ap (λ (u : Point). cAt (s .args .a) u (s .args .z)) (c .before .before .before .before .before .before .step .ensures)) in
+    ap not (c .farther .ensures ∙ (λ i. ltZ (d i *ℤ v i) (k i *ℤ k i +ℤ pos 0)))
+    ∙ within-along (s .args .z) (s .args .a) (s .args .b) D (sym (λ i. leZ (t i) (pos 0)) ∙ c .before .before .before .before .if1 .left) (sym (λ i. leZ (v i) (t i)) ∙ c .before .before .if2 .left)
 
 pub within-spec : {M : Type 1} → statement M
 within-spec =

@@ -1,6 +1,6 @@
 -- `box_good` is the conjunction of two calls.
-use mathlib.Core.Path.{_≡_, sym, _∙_}
-use mathlib.Core.Bool.{true, false, _&&_}
+use mathlib.Core.Path.{_≡_}
+use mathlib.Core.Bool.{_&&_}
 use mir.Syntax.{w64}
 use mir.Val.{SFits}
 use mir.Facts.{toZ-ofZ}
@@ -17,22 +17,14 @@ side-good-requires-2 c κs = search needs
 
 returns : tie.Need-returns
 returns c =
-    let r = c .before .before .before .before .before .before .before .args .r in
+    let r = c .before .before .before .before .before .before .args .r in
     let f-xmin : SFits w64 (r .xmin) = search needs in
     let f-xmax : SFits w64 (r .xmax) = search needs in
     let f-ymin : SFits w64 (r .ymin) = search needs in
     let f-ymax : SFits w64 (r .ymax) = search needs in
-    let e : sideGood (r .xmin) (r .xmax) ≡ true = sym (simp (toZ-ofZ f-xmin, toZ-ofZ f-xmax) at (c .before .before .before .before .side-good .ensures)) ∙ c .before .before .before .if1 .taken in
+    let e : c .before .before .before .side-good .result ≡ sideGood (r .xmin) (r .xmax) = simp (toZ-ofZ f-xmin, toZ-ofZ f-xmax) at (c .before .before .before .side-good .ensures) in
     let g : c .side-good2 .result ≡ sideGood (r .ymin) (r .ymax) = simp (toZ-ofZ f-ymin, toZ-ofZ f-ymax) at (c .side-good2 .ensures) in
-    g ∙ sym (λ d. e d && sideGood (r .ymin) (r .ymax))
-
-returns-2 : tie.Need-returns-2
-returns-2 c =
-    let r = c .before .before .before .before .args .r in
-    let f-xmin : SFits w64 (r .xmin) = search needs in
-    let f-xmax : SFits w64 (r .xmax) = search needs in
-    let e : sideGood (r .xmin) (r .xmax) ≡ false = sym (simp (toZ-ofZ f-xmin, toZ-ofZ f-xmax) at (c .before .side-good .ensures)) ∙ c .if1 .left in
-    c .if1 .left ∙ sym (λ d. e d && sideGood (r .ymin) (r .ymax))
+    λ d. e d && g d
 
 pub box-good-spec : {M : Type 1} → statement M
-box-good-spec = tie.close (tie.spec side-good-requires side-good-requires-2 returns returns-2)
+box-good-spec = tie.close (tie.spec side-good-requires side-good-requires-2 returns)

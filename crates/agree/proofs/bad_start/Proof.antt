@@ -1,0 +1,73 @@
+-- `bad_start` asks the first point, which is not near: it is off the sheet, or its walk meets the root's bad row.
+use mathlib.Core.Path.{_≡_, sym, _∙_, ap}
+use native.Mathlib.Omega.{arith}
+use borrow.Author.Tests.{not-true, not-false}
+use Rattle.rules.specs.declared.Point.{Point}
+use Rattle.rules.specs.declared.Tally.{Tally}
+use Rattle.rules.specs.Sheet.{point, pointsOf, onSheet}
+use Rattle.rules.specs.Walk.{next}
+use Rattle.row.specs.Came.{came, badRow, due}
+use Rattle.row.proofs.Ends.{end-in}
+use Rattle.near.proofs.Visits.{root-bad}
+use Rattle.agree.specs.Said.{OFF, asked}
+use Rattle.agree.proofs.Points.{reads-off, root-end, heard, one-point, first-stops}
+use borrow.Author.Needs.{needs}
+use Rattle.agree.proofs.bad_start.Statement.{statement}
+use Rattle.agree.proofs.bad_start.Tie as tie
+
+abbrev tally : tie.Start → Tally
+tally s = record { allowance = s .args .allowance; visits = s .args .visits }
+
+-- the first point is on the sheet as it stands in the line
+said : (c : tie.After-on-sheet) → c .on-sheet .result ≡ onSheet (point (c .before .before .args .points .now) 0)
+said c = c .on-sheet .ensures ∙ ap (λ (p : Point). onSheet p) (c .before .point-at .ensures)
+
+point-at-requires : tie.Need-point-at-requires
+point-at-requires c κs = search needs
+
+on-sheet-requires : tie.Need-on-sheet-requires
+on-sheet-requires c κs = search needs
+
+came-requires : tie.Need-came-requires
+came-requires c κs = search needs
+
+returns : tie.Need-returns
+returns c =
+    let s = c .before .before .before .before in
+    let a = s .args in
+    let ps = a .points .now in
+    let e = end-in (a .visits) OFF (omega arith) in (
+      λ line other theirs table d h off. ap (asked line other 0 (a .allowance)) (c .came .ensures)
+          ∙ first-stops line ps other theirs table d (a .allowance) (pointsOf ps) (came (a .visits) OFF) (tally s) (s .pre) (λ q. omega (arith, e, q))
+          (reads-off line other 0 (a .allowance) (a .visits)
+          ∙ one-point line ps other theirs table d 0 (tally s) (sym (said (c .before .before)) ∙ not-true _ (c .before .if1 .taken))),
+      omega (arith, e, c .came .ensures),
+    )
+
+bad-row-due-requires : tie.Need-bad-row-due-requires
+bad-row-due-requires c κs = search needs
+
+returns-2 : tie.Need-returns-2
+returns-2 c =
+    let s = c .before .before .before .before in
+    let a = s .args in
+    let ps = a .points .now in
+    let r = due (next (tally s)) badRow in
+    let e = root-end (next (tally s)) in (
+      λ line other theirs table d h off. ap (asked line other 0 (a .allowance)) (c .bad-row-due .ensures)
+          ∙ first-stops line ps other theirs table d (a .allowance) (pointsOf ps) r (tally s) (s .pre) (λ q. omega (arith, e .0, q))
+          (heard line other 0 (a .allowance) r (λ q. omega (arith, e .1, q)) (root-bad other other (point ps 0) d (tally s) h off)
+          ∙ one-point line ps other theirs table d 0 (tally s) (sym (said (c .before .before)) ∙ not-false _ (c .before .if1 .left))),
+      omega (arith, e .0, c .bad-row-due .ensures),
+    )
+
+pub bad-start-spec : {M : Type 1} → statement M
+bad-start-spec =
+    tie.close
+    (tie.spec
+    point-at-requires
+    on-sheet-requires
+    came-requires
+    returns
+    bad-row-due-requires
+    returns-2)

@@ -1,0 +1,183 @@
+-- `from_roots` checks the row of A's root, then that of B's; roots with their boxes apart are one visit, others are walked from.
+use mathlib.Core.Path.{_≡_, sym, _∙_, ap}
+use mathlib.Core.Bool.{Bool}
+use mathlib.Core.List.{List}
+use Prim.Native.Nat.{ℕ, _+_, _<_}
+use native.Mathlib.Omega.{arith}
+use borrow.Author.Tests.{not-true, not-false}
+use lib.Dec.{T}
+use lib.IntN.{ℤ}
+use Rattle.whole.specs.Order.{T-true}
+use Rattle.rules.specs.declared.Line.the-variants.{LineA, LineB}
+use Rattle.rules.specs.declared.Pair.{Pair}
+use Rattle.rules.specs.Sheet.{segmentsOf}
+use Rattle.rules.specs.Tree.{rowAt}
+use Rattle.rules.specs.Rows.{good}
+use Rattle.rules.specs.Walk.{Visit, fresh}
+use Rattle.rules.specs.Questions.{Nothing, root, boxesApart, yesOrNo, meetVisit}
+use Rattle.row.specs.Came.{cameTo}
+use Rattle.row.proofs.Dues.{reads-bad-due, reads-second-due}
+use Rattle.row.proofs.Places.{root-stands}
+use Rattle.meet.specs.Pairs.{Read}
+use Rattle.meet.proofs.GoodRows.{placed}
+use Rattle.meet.proofs.Steps.{bad-a, bad-b, boxes-dismiss, dismissed}
+use borrow.Author.Needs.{needs}
+use Rattle.meet.proofs.from_roots.Statement.{statement}
+use Rattle.meet.proofs.from_roots.Tie as tie
+
+-- ---------------- the lines and tables, the pair of their roots, and the levels that are enough for it
+abbrev ps : tie.Start → List ℤ
+ps s = s .args .t1 .now
+
+abbrev qs : tie.Start → List ℤ
+qs s = s .args .t3 .now
+
+abbrev roots : tie.Start → Pair
+roots s = record { a = root (ps s); b = root (qs s) }
+
+abbrev levels : tie.Start → ℕ
+levels s = segmentsOf (ps s) + segmentsOf (qs s)
+
+abbrev does : tie.Start → Pair → Visit Nothing Pair
+does s = meetVisit (ps s) (s .args .t2 .now) (qs s) (s .args .t4 .now)
+
+some : (s : tie.Start) → 0 < levels s
+some s = let f = s .pre .0 .some-points in omega arith
+
+-- ---------------- what each check said
+abbrev rootGoodA : tie.Start → Bool
+rootGoodA s = good (ps s) (rowAt (s .args .t2 .now) 0) 0 (segmentsOf (ps s))
+
+abbrev rootGoodB : tie.Start → Bool
+rootGoodB s = good (qs s) (rowAt (s .args .t4 .now) 0) 0 (segmentsOf (qs s))
+
+told-a : (c : tie.After-row-good) → c .row-good .result ≡ rootGoodA (c .before .before)
+told-a c = let s = c .before .before in c .row-good .ensures ∙ (λ i. good (ps s) (c .before .row-at .ensures i) 0 (segmentsOf (ps s)))
+
+told-b : (c : tie.After-row-good2) → c .row-good2 .result ≡ rootGoodB (c .before .before .before .before .before)
+told-b c =
+    let s = c .before .before .before .before .before in c .row-good2 .ensures ∙ (λ i. good (qs s) (c .before .row-at2 .ensures i) 0 (segmentsOf (qs s)))
+
+good-a : (c : tie.Else1) → T (rootGoodA (c .before .before .before))
+good-a c = T-true (sym (told-a (c .before)) ∙ not-false _ (c .if1 .left))
+
+good-b : (c : tie.Else2) → T (rootGoodB (c .before .before .before .before .before .before))
+good-b c = T-true (sym (told-b (c .before)) ∙ not-false _ (c .if2 .left))
+
+sub-last-a : tie.Need-sub-last-a
+sub-last-a c = search needs
+
+sub-last-b : tie.Need-sub-last-b
+sub-last-b c = search needs
+
+row-at-requires : tie.Need-row-at-requires
+row-at-requires c κs = search needs
+
+row-good-requires : tie.Need-row-good-requires
+row-good-requires c κs = search needs
+
+bad-row-due-requires : tie.Need-bad-row-due-requires
+bad-row-due-requires c κs = search needs
+
+answer-requires : tie.Need-answer-requires
+answer-requires c κs = search needs
+
+returns : tie.Need-returns
+returns c =
+    let s = c .before .before .before .before .before in
+    let k = s .args .allowance in
+    c .answer .ensures
+    ∙ ap (λ (r : ℕ). yesOrNo k (cameTo tt tt LineA LineB k r)) (c .before .bad-row-due .ensures)
+    ∙ ap (yesOrNo k) (reads-bad-due tt tt LineA LineB (does s) (roots s) tt (fresh k) (levels s) (some s) 0 (omega arith)
+    (bad-a _ _ _ _ (roots s) (sym (told-a (c .before .before .before)) ∙ not-true _ (c .before .before .if1 .taken))))
+
+row-at-requires-2 : tie.Need-row-at-requires-2
+row-at-requires-2 c κs = search needs
+
+row-good-requires-2 : tie.Need-row-good-requires-2
+row-good-requires-2 c κs = search needs
+
+bad-second-due-requires : tie.Need-bad-second-due-requires
+bad-second-due-requires c κs = search needs
+
+answer-requires-2 : tie.Need-answer-requires-2
+answer-requires-2 c κs = search needs
+
+returns-2 : tie.Need-returns-2
+returns-2 c =
+    let f = c .before .before .before .before .before in
+    let s = f .before .before .before in
+    let k = s .args .allowance in
+    c .answer2 .ensures
+    ∙ ap (λ (r : ℕ). yesOrNo k (cameTo tt tt LineA LineB k r)) (c .before .bad-second-due .ensures)
+    ∙ ap (yesOrNo k) (reads-second-due tt tt LineA LineB (does s) (roots s) tt (fresh k) (levels s) (some s) 0 (omega arith)
+    (bad-b _ _ _ _ (roots s) (good-a f) (sym (told-b (c .before .before .before)) ∙ not-true _ (c .before .before .if2 .taken))))
+
+-- ---------------- both rows are good
+read-a : (c : tie.Else1) → Read (ps (c .before .before .before)) (c .before .before .row-at .result) (root (ps (c .before .before .before)))
+read-a c = record {
+  table = c .before .before .before .args .t2 .now;
+  stands = root-stands (c .before .before .before .pre .0);
+  row-good = T-true (sym (c .before .row-good .ensures) ∙ not-false _ (c .if1 .left));
+}
+
+read-b : (c : tie.Else2) → Read (qs (c .before .before .before .before .before .before)) (c .before .before .row-at2 .result) (root (qs (c .before .before .before .before .before .before)))
+read-b c = record {
+  table = c .before .before .before .before .before .before .args .t4 .now;
+  stands = root-stands (c .before .before .before .before .before .before .pre .1);
+  row-good = T-true (sym (c .before .row-good2 .ensures) ∙ not-false _ (c .if2 .left));
+}
+
+boxes-apart-requires : tie.Need-boxes-apart-requires
+boxes-apart-requires c κs = (placed (read-a (c .before .before .before)) .box-on, placed (read-b c) .box-on)
+
+at-once-requires : tie.Need-at-once-requires
+at-once-requires c κs = search needs
+
+returns-3 : tie.Need-returns-3
+returns-3 c =
+    let g = c .before .before .before in
+    let f = g .before .before .before in
+    let s = f .before .before .before in
+    let k = s .args .allowance in
+    let apart = sym (c .before .before .boxes-apart .ensures ∙ (λ i. boxesApart (f .before .before .row-at .ensures i) (g .before .before .row-at2 .ensures i))) ∙ c .before .if3 .taken in
+    c .at-once .ensures
+    ∙ ap (yesOrNo k) (dismissed (does s) (roots s) (fresh k) (levels s) (some s) (boxes-dismiss _ _ _ _ (roots s) (good-a f) (good-b g) apart))
+
+walk-requires : tie.Need-walk-requires
+walk-requires c κs =
+    let g = c .before .before .before .before .before .before in
+    let f = g .before .before .before in
+    let s = f .before .before .before in
+    record { a-stands = root-stands (s .pre .0); b-stands = root-stands (s .pre .1); a-good = good-a f; b-good = good-b g }
+
+answer-requires-3 : tie.Need-answer-requires-3
+answer-requires-3 c κs = search needs
+
+returns-4 : tie.Need-returns-4
+returns-4 c =
+    let s = c .before .before .before .before .before .before .before .before .before .before .before .before .before .before in
+    c .answer3 .ensures ∙ ap (yesOrNo (s .args .allowance)) (c .before .walk .ensures (levels s) (omega arith))
+
+pub from-roots-spec : {M : Type 1} → statement M
+from-roots-spec =
+    tie.close
+    (tie.spec
+    sub-last-a
+    sub-last-b
+    row-at-requires
+    row-good-requires
+    bad-row-due-requires
+    answer-requires
+    returns
+    row-at-requires-2
+    row-good-requires-2
+    bad-second-due-requires
+    answer-requires-2
+    returns-2
+    boxes-apart-requires
+    at-once-requires
+    returns-3
+    walk-requires
+    answer-requires-3
+    returns-4)
