@@ -1,23 +1,23 @@
 -- One visit of IN by its cases, in the order of the code.
 use mathlib.Core.Path.{_≡_, refl, sym, _∙_, ap, subst}
-use mathlib.Core.Bool.{Bool, true, false, not, cond, _&&_}
+use mathlib.Core.Bool.{Bool, true, false, cond, _&&_}
 use mathlib.Core.List.{List}
 use Prim.Native.Nat.{_<_}
 use borrow.Author.Tests.{leb-false}
 use lib.Dec.{T}
-use lib.IntN.{ℤ, pos}
-use lib.Signed.{ltZ}
+use lib.IntN.{ℤ}
 use Rattle.rules.specs.declared.Line.the-variants.{LineA}
 use Rattle.rules.specs.declared.Node.{Node}
 use Rattle.rules.specs.declared.Point.{Point}
 use Rattle.rules.specs.declared.Row.{Row}
-use Rattle.rules.specs.Plane.{eqZ, samePoint, direction}
-use Rattle.rules.specs.Tree.{noSplit, rowAt}
+use Rattle.rules.specs.Plane.{direction}
+use Rattle.rules.specs.Tree.{rowAt}
 use Rattle.rules.specs.Plain.{onSegment, crosses}
-use Rattle.rules.specs.Rows.{rangeGood, stripGood, boxGood, good}
+use Rattle.rules.specs.Rows.{good}
 use Rattle.rules.specs.Walk.{Visit, refuse, finish, pass, halve}
 use Rattle.rules.specs.Questions.{leaf, splitIn, openNode, startOf, endOf, clearOf, count, inVisit}
 use Rattle.visits.proofs.Nodes.{good-read}
+use Rattle.row.specs.Parts.{frameGood, leafFits, splitFits}
 use Rattle.row.specs.Stands.{Stands, EndsOn}
 use Rattle.row.proofs.Parts.{between-parts}
 use Rattle.row.proofs.Places.{opens}
@@ -90,13 +90,13 @@ pub record RowRead (ps t : List ℤ) (n : Node) : Type 0 where
 module _ (ps t : List ℤ) (z : Point) (n : Node) (m : RowRead ps t n) where
   -- the rules that ask for no point, and those of a leaf and of a node of more segments
   abbrev pub frame : Bool
-  frame = rangeGood (m .row) (n .first) (n .last) && (stripGood (m .row) && boxGood (m .row))
+  frame = frameGood (m .row) (n .first) (n .last)
 
   abbrev leafRule : Point → Point → Bool
-  leafRule a b = eqZ (m .row .split) noSplit && not (samePoint a b)
+  leafRule a b = leafFits (m .row) a b
 
   abbrev innerRule : Bool
-  innerRule = ltZ (pos (n .first)) (m .row .split) && ltZ (m .row .split) (pos (n .last))
+  innerRule = splitFits (m .row) (n .first) (n .last)
 
   -- with the frame, the rule that is left decides whether the row is good
   parts : {framed end : Bool} → frame ≡ framed → leaf n ≡ end

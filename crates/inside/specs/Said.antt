@@ -1,31 +1,29 @@
 -- What the values of `inside` say, in the words of the definitions.
-use mathlib.Core.Bool.{Bool, not, cond, _&&_}
+use mathlib.Core.Bool.{Bool, cond}
 use Prim.Native.Nat.{ℕ, _<_}
-use lib.IntN.{pos}
-use lib.Signed.{ltZ}
 use Rattle.rules.specs.declared.Line.the-variants.{LineA}
 use Rattle.rules.specs.declared.Node.{Node}
 use Rattle.rules.specs.declared.Point.{Point}
 use Rattle.rules.specs.declared.Row.{Row}
-use Rattle.rules.specs.Plane.{eqZ, samePoint, direction}
-use Rattle.rules.specs.Tree.{noSplit}
+use Rattle.rules.specs.Plane.{direction}
 use Rattle.rules.specs.Plain.{onSegment, crosses}
 use Rattle.rules.specs.Questions.{splitIn, leftOf, rightOf, clearOf, count}
 use Rattle.rules.specs.Walk.{Visit, refuse, finish, pass, halve}
+use Rattle.row.specs.Parts.{leafFits, splitFits}
 use Rattle.inside.specs.declared.Step.{Step}
 use Rattle.inside.specs.declared.Step.the-variants.{Bad, Finish, Pass, Halve}
 
 -- what a visit comes to once the frame of the row is good: of a leaf ..
 abbrev pub leafStep : Row → Point → Point → Point → Step
 leafStep r a b z =
-    cond (eqZ (r .split) noSplit && not (samePoint a b))
+    cond (leafFits r a b)
     (cond (clearOf r a (direction a b) z) (Pass (crosses z a b)) (cond (onSegment z a b) Finish (Pass (crosses z a b))))
     Bad
 
 -- .. and of a node of more segments
 abbrev pub innerStep : Row → ℕ → ℕ → Point → Point → Point → Step
 innerStep r first last a b z =
-    cond (ltZ (pos first) (r .split) && ltZ (r .split) (pos last))
+    cond (splitFits r first last)
     (cond (clearOf r a (direction a b) z) (Pass (crosses z a b)) (Halve (splitIn r)))
     Bad
 

@@ -1,6 +1,6 @@
 -- What one visit does, by the tests that it makes in order.
 use mathlib.Core.Path.{_≡_, refl, sym, _∙_}
-use mathlib.Core.Bool.{Bool, true, false, not, cond, _&&_}
+use mathlib.Core.Bool.{Bool, true, false, cond, _&&_}
 use mathlib.Core.List.{List}
 use Prim.Native.Nat.{ℕ, _+_, _<_}
 use native.Mathlib.Omega.{arith}
@@ -13,10 +13,9 @@ use Rattle.rules.specs.declared.Node.{Node}
 use Rattle.rules.specs.declared.Point.{Point}
 use Rattle.rules.specs.declared.Row.{Row}
 use Rattle.rules.specs.declared.Tally.{Tally}
-use Rattle.rules.specs.Plane.{eqZ, samePoint}
 use Rattle.rules.specs.Plain.{within}
 use Rattle.rules.specs.Sheet.{segmentsOf, onSheet}
-use Rattle.rules.specs.Tree.{noSplit, rowAt}
+use Rattle.rules.specs.Tree.{rowAt}
 use Rattle.rules.specs.Rows.{rangeGood, stripGood, boxGood, endsGood, good}
 use Rattle.rules.specs.Walk.{next, Visit, refuse, finish, pass, halve}
 use Rattle.rules.specs.Questions.{Nothing, root, leaf, splitIn, openNode, startOf, endOf, headingOf, farFrom, nearVisit, nearWalk}
@@ -24,6 +23,7 @@ use Rattle.visits.proofs.Nodes.{between-read}
 use Rattle.visits.proofs.Tests.{four-yes}
 use Rattle.line.specs.Fine.{LengthsFine}
 use Rattle.row.specs.Came.{badRow, due, cameTo}
+use Rattle.row.specs.Parts.{frameGood, leafFits, splitFits}
 use Rattle.row.specs.Stands.{Stands, EndsOn}
 use Rattle.row.proofs.Dues.{reads-bad-due}
 use Rattle.row.proofs.Parts.{lastRule, end-off, ends-off, between-parts}
@@ -31,12 +31,8 @@ use Rattle.row.proofs.Places.{opens}
 use Rattle.near.specs.Bounds.{HoldsStart}
 use Rattle.near.specs.Said.{visitOf, leafBy, innerBy, leafSeen, innerSeen}
 
--- the rules that ask for no point
-abbrev pub frame : Row → ℕ → ℕ → Bool
-frame r first last = rangeGood r first last && (stripGood r && boxGood r)
-
 -- ---------------- what a row tells that passes a test
-pub holds-start : (r : Row) (first last : ℕ) → frame r first last ≡ true → HoldsStart r
+pub holds-start : (r : Row) (first last : ℕ) → frameGood r first last ≡ true → HoldsStart r
 holds-start r first last e =
     let f = and-yes (rangeGood r first last) (stripGood r && boxGood r) (T-true e) in
     let s = and-yes (stripGood r) (boxGood r) (f .1) in
@@ -79,27 +75,26 @@ module _ (l : Line) (ps t : List ℤ) (z : Point) (D : ℤ) (n : Node) where
 
   -- one that does neither has a good row where its frame is good and the last rule holds
   module _ (on : EndsOn ps n) where
-    parts : good ps row (n .first) (n .last) ≡ frame row (n .first) (n .last) && lastRule ps row (n .first) (n .last)
+    parts : good ps row (n .first) (n .last) ≡ frameGood row (n .first) (n .last) && lastRule ps row (n .first) (n .last)
     parts = between-parts ps row (n .first) (n .last) (on .start-on) (on .end-on)
 
-    pub frame-bad : frame row (n .first) (n .last) ≡ false → refuse 10 l (n .row) ≡ nearVisit l ps t z D n
+    pub frame-bad : frameGood row (n .first) (n .last) ≡ false → refuse 10 l (n .row) ≡ nearVisit l ps t z D n
     frame-bad e = row-bad (parts ∙ (λ i. e i && lastRule ps row (n .first) (n .last)))
 
-    module _ (framed : frame row (n .first) (n .last) ≡ true) where
-      -- a leaf
-      abbrev leafGood : Bool
-      leafGood = eqZ (row .split) noSplit && not (samePoint (startOf ps n) (endOf ps n))
+    module _ (framed : frameGood row (n .first) (n .last) ≡ true) where
+      -- the rule of a leaf, and of a longer node
+      abbrev ofLeaf : Bool
+      ofLeaf = leafFits row (startOf ps n) (endOf ps n)
 
-      -- a longer node
-      abbrev splitGood : Bool
-      splitGood = ltZ (pos (n .first)) (row .split) && ltZ (row .split) (pos (n .last))
+      abbrev ofMore : Bool
+      ofMore = splitFits row (n .first) (n .last)
 
-      by-leaf : {k : Bool} → leaf n ≡ k → good ps row (n .first) (n .last) ≡ cond k leafGood splitGood
-      by-leaf e = parts ∙ (λ i. framed i && cond (e i) leafGood splitGood)
+      by-leaf : {k : Bool} → leaf n ≡ k → good ps row (n .first) (n .last) ≡ cond k ofLeaf ofMore
+      by-leaf e = parts ∙ (λ i. framed i && cond (e i) ofLeaf ofMore)
 
       pub leaf-visit : leaf n ≡ true → visitOf l n (leafSeen row (startOf ps n) (endOf ps n) z D) ≡ nearVisit l ps t z D n
       unfolding nearVisit
-      leaf-visit k = by leafGood isFar isWithin ∙ sym (λ i. tested (by-leaf k i) isFar (k i) isWithin)
+      leaf-visit k = by ofLeaf isFar isWithin ∙ sym (λ i. tested (by-leaf k i) isFar (k i) isWithin)
         where
           by : (g f w : Bool) → visitOf l n (leafBy g f w) ≡ tested g f true w
           by true true w = refl
@@ -109,9 +104,9 @@ module _ (l : Line) (ps t : List ℤ) (z : Point) (D : ℤ) (n : Node) where
 
       pub inner-visit : Stands ps t n → leaf n ≡ false → visitOf l n (innerSeen row (n .first) (n .last) (startOf ps n) (endOf ps n) z D) ≡ nearVisit l ps t z D n
       unfolding nearVisit
-      inner-visit h k = by splitGood isFar refl ∙ sym (λ i. tested (by-leaf k i) isFar (k i) isWithin)
+      inner-visit h k = by ofMore isFar refl ∙ sym (λ i. tested (by-leaf k i) isFar (k i) isWithin)
         where
-          by : (g f : Bool) → splitGood ≡ g → visitOf l n (innerBy (splitIn row) g f) ≡ tested g f false isWithin
+          by : (g f : Bool) → ofMore ≡ g → visitOf l n (innerBy (splitIn row) g f) ≡ tested g f false isWithin
           by true true e = refl
           by true false e = let s = split-between (n .first) (n .last) (row .split) e in sym (opens h (s .0) (s .1) l halve)
           by false f e = refl

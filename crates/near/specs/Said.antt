@@ -1,17 +1,16 @@
 -- What the values of `near` say, in the words of the definitions.
-use mathlib.Core.Bool.{Bool, not, cond, _&&_}
+use mathlib.Core.Bool.{Bool, cond}
 use Prim.Native.Nat.{ℕ, _<_}
-use lib.IntN.{ℤ, pos}
-use lib.Signed.{ltZ}
+use lib.IntN.{ℤ}
 use Rattle.rules.specs.declared.Line.{Line}
 use Rattle.rules.specs.declared.Node.{Node}
 use Rattle.rules.specs.declared.Point.{Point}
 use Rattle.rules.specs.declared.Row.{Row}
-use Rattle.rules.specs.Plane.{eqZ, samePoint, direction}
+use Rattle.rules.specs.Plane.{direction}
 use Rattle.rules.specs.Plain.{within}
-use Rattle.rules.specs.Tree.{noSplit}
 use Rattle.rules.specs.Walk.{Visit, refuse, finish, pass, halve}
 use Rattle.rules.specs.Questions.{Nothing, leftOf, rightOf, splitIn, farFrom}
+use Rattle.row.specs.Parts.{leafFits, splitFits}
 use Rattle.near.specs.declared.Visited.{Visited}
 use Rattle.near.specs.declared.Visited.the-variants.{Bad, Finish, Pass, Halve}
 
@@ -33,11 +32,11 @@ innerBy split isGood isFar = cond isGood (cond isFar Pass (Halve split)) Bad
 
 -- so from a to b, for the point z and the distance D
 abbrev pub leafSeen : Row → Point → Point → Point → ℤ → Visited
-leafSeen r a b z D = leafBy (eqZ (r .split) noSplit && not (samePoint a b)) (farFrom r a (direction a b) z D) (within z a b D)
+leafSeen r a b z D = leafBy (leafFits r a b) (farFrom r a (direction a b) z D) (within z a b D)
 
 abbrev pub innerSeen : Row → ℕ → ℕ → Point → Point → Point → ℤ → Visited
 innerSeen r first last a b z D =
-    innerBy (splitIn r) (ltZ (pos first) (r .split) && ltZ (r .split) (pos last)) (farFrom r a (direction a b) z D)
+    innerBy (splitIn r) (splitFits r first last) (farFrom r a (direction a b) z D)
 
 -- a node is halved at an inner point
 abbrev pub SplitsBetween : ℕ → ℕ → Visited → Type 0

@@ -12,12 +12,12 @@ use Rattle.rules.specs.Plane.{eqZ, samePoint}
 use Rattle.rules.specs.Sheet.{point, onSheet}
 use Rattle.rules.specs.Tree.{noSplit, isLeaf}
 use Rattle.rules.specs.Rows.{rangeGood, stripGood, boxGood, endsGood, good}
+use Rattle.row.specs.Parts.{frameGood, leafFits, splitFits}
 
 -- what is asked of a leaf, and of a node of more segments
 abbrev pub lastRule : List ℤ → Row → ℕ → ℕ → Bool
 lastRule ps r first last =
-    cond (isLeaf first last) (eqZ (r .split) noSplit && not (samePoint (point ps first) (point ps last)))
-    (ltZ (pos first) (r .split) && ltZ (r .split) (pos last))
+    cond (isLeaf first last) (leafFits r (point ps first) (point ps last)) (splitFits r first last)
 
 pub good-parts : (ps : List ℤ) (r : Row) (first last : ℕ) →
     good ps r first last
@@ -56,7 +56,7 @@ module _ (ps : List ℤ) (r : Row) (first last : ℕ) where
       by false h = start-off h
 
   pub between-parts : T (onSheet (point ps first)) → T (onSheet (point ps last))
-      → good ps r first last ≡ rangeGood r first last && (stripGood r && boxGood r) && lastRule ps r first last
+      → good ps r first last ≡ frameGood r first last && lastRule ps r first last
   between-parts h k =
       let e = yes-T (onSheet (point ps first)) h in
       let f = yes-T (onSheet (point ps last)) k in

@@ -1,3 +1,4 @@
 -- What the contracts of `row` are said with.
 pub mod Stands
 pub mod Came
+pub mod Parts

@@ -12,19 +12,19 @@ use rules::Row;
 use rules::Tally;
 use whole::wide;
 ghost use mathlib.Core.Path.{_≡_};
-ghost use mathlib.Core.Bool.{not, _&&_};
+ghost use mathlib.Core.Bool.{_&&_};
 ghost use Prim.Native.Nat.{_+_, _*_, _<_, _≤_};
 ghost use lib.Dec.{T, leb};
 ghost use lib.IntN.{pos};
 ghost use lib.ListN.{length};
-ghost use lib.Signed.{leZ, ltZ, _≤ℤ_};
-ghost use Rattle.rules.specs.Plane.{eqZ, samePoint};
-ghost use Rattle.rules.specs.Tree.{width, rowAt, noSplit};
+ghost use lib.Signed.{leZ, _≤ℤ_};
+ghost use Rattle.rules.specs.Tree.{width, rowAt};
 ghost use Rattle.rules.specs.Reply.{answerReply};
 ghost use Rattle.rules.specs.Sheet.{point, pointsOf, segmentsOf, onSheet};
 ghost use Rattle.rules.specs.Rows.{rangeGood, stripGood, sideGood, boxGood, endsGood, good};
 ghost use Rattle.rules.specs.Walk.{next};
 ghost use Rattle.rules.specs.Questions.{splitIn, yesOrNo};
+ghost use Rattle.row.specs.Parts.{frameGood, leafFits, splitFits};
 ghost use Rattle.row.specs.Came.{came, visitsIn, endIn, ENDED, badRow, badSecond, refusalIn, tallyIn, due, cameTo};
 
 // Row r of a table.
@@ -58,7 +58,7 @@ fn range_good(r: Row, first: usize, last: usize) -> bool
 // A node of more segments splits strictly inside its range.
 pub fn splits_inside(r: Row, first: usize, last: usize) -> bool
     requires { ⌜ (first < last) × (last < 4097) ⌝ }
-    ensures { λ g. ⌜ g ≡ ltZ (pos first) (r .split) && ltZ (r .split) (pos last) ⌝ }
+    ensures { λ g. ⌜ g ≡ splitFits r first last ⌝ }
 {
     (first as i64) < r.split && r.split < last as i64
 }
@@ -91,7 +91,7 @@ fn box_good(r: Row) -> bool
 // The rules that ask for no point: the range handed down, a strip that holds the start, a box on the sheet.
 pub fn frame_good(r: Row, first: usize, last: usize) -> bool
     requires { ⌜ (first < last) × (last < 4097) ⌝ }
-    ensures { λ g. ⌜ g ≡ rangeGood r first last && (stripGood r && boxGood r) ⌝ }
+    ensures { λ g. ⌜ g ≡ frameGood r first last ⌝ }
 {
     if !range_good(r, first, last) {
         return false;
@@ -101,7 +101,7 @@ pub fn frame_good(r: Row, first: usize, last: usize) -> bool
 
 // A leaf has no split, and its two points differ.
 pub fn leaf_good(r: Row, a: Point, b: Point) -> bool
-    ensures { λ g. ⌜ g ≡ eqZ (r .split) noSplit && not (samePoint a b) ⌝ }
+    ensures { λ g. ⌜ g ≡ leafFits r a b ⌝ }
 {
     r.split == -1 && !same_point(a, b)
 }

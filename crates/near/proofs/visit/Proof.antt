@@ -12,7 +12,8 @@ use Rattle.visits.proofs.OnSheets.{on-sheet}
 use Rattle.line.proofs.Stored.{stored, stored-abs}
 use Rattle.near.specs.Bounds.{HoldsStart}
 use Rattle.near.specs.Said.{visitOf, leafSeen, innerSeen}
-use Rattle.near.proofs.Visits.{frame, holds-start, frame-bad, leaf-visit, inner-visit}
+use Rattle.row.specs.Parts.{frameGood}
+use Rattle.near.proofs.Visits.{holds-start, frame-bad, leaf-visit, inner-visit}
 use borrow.Author.Needs.{needs}
 use Rattle.near.proofs.visit.Statement.{statement}
 use Rattle.near.proofs.visit.Tie as tie
@@ -40,7 +41,7 @@ abbrev start : tie.After-frame-good → tie.Start
 start c = c .before .before .before .before
 
 abbrev isFramed : tie.Start → Row → Bool
-isFramed s r = frame r (s .args .node .first) (s .args .node .last)
+isFramed s r = frameGood r (s .args .node .first) (s .args .node .last)
 
 frame-said : (c : tie.After-frame-good) → c .frame-good .result ≡ isFramed (start c) (rowAt (rows (start c)) (start c .args .node .row))
 frame-said c = c .frame-good .ensures ∙ ap (isFramed (start c)) (c .before .before .before .row-at .ensures)
