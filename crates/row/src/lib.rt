@@ -203,19 +203,12 @@ pub fn tally_in(allowance: u32, came: u64) -> Tally
     }
 }
 
-// Refused for a bad row of the first line, or of the second.
+// Refused for a bad row of the first line.
 pub fn bad_row(visits: u32, row: usize) -> u64
     requires { ⌜ row < 8193 ⌝ }
     ensures { λ r. ⌜ r ≡ came visits (badRow + row) ⌝ }
 {
     came(visits, BAD_ROW + row as u32)
-}
-
-pub fn bad_second(visits: u32, row: usize) -> u64
-    requires { ⌜ row < 8193 ⌝ }
-    ensures { λ r. ⌜ r ≡ came visits (badSecond + row) ⌝ }
-{
-    came(visits, BAD_SECOND + row as u32)
 }
 
 // A visit is due that ends the walk, if there is one left to make.

@@ -1,7 +1,7 @@
 -- `due` counts the visit, if one is left.
 use mathlib.Core.Path.{_≡_, sym, _∙_, ap}
 use Rattle.rules.specs.declared.Next.{Next}
-use Rattle.rules.specs.declared.Next.the-variants.{Left, Spent}
+use Rattle.rules.specs.declared.Next.the-variants.{Spent}
 use Rattle.rules.specs.Walk.{next}
 use Rattle.row.specs.Came.{due}
 use borrow.Author.Needs.{needs}
