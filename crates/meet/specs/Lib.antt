@@ -1,4 +1,4 @@
 -- What the contracts of `meet` are said with.
 pub mod Pairs
-pub mod Corners
+pub mod Turned
 pub mod Said

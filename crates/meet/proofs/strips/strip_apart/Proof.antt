@@ -1,87 +1,59 @@
--- `strip_apart` asks c at the corners, then t.
-use mathlib.Core.Path.{_≡_, refl, sym, _∙_, subst}
-use mathlib.Core.Bool.{true, false, _||_}
+-- `strip_apart` asks t along u turned, which is c, then t along u.
+use mathlib.Core.Path.{_≡_, sym, _∙_, subst}
+use mathlib.Core.Bool.{_||_}
 use mir.Syntax.{w64}
 use mir.Val.{SFits}
 use mir.Facts.{toZ-ofZ}
+use Rattle.whole.specs.Range.{neg-bound}
 use Rattle.rules.specs.declared.Point.{Point}
-use Rattle.rules.specs.declared.Row.{Row}
 use Rattle.rules.specs.Plane.{cAt, tAt}
-use Rattle.rules.specs.Questions.{beyondCorners, stripApart}
-use Rattle.meet.specs.Pairs.{BoxOnSheet}
-use Rattle.meet.specs.Corners.{CornersOnSheet, cornersOf, valuesAt, beyond}
+use Rattle.rules.specs.Questions.{beyondCorners}
+use Rattle.visits.specs.Small.{Small}
+use Rattle.meet.specs.Turned.{turned}
+use Rattle.meet.proofs.Corners.{beyond-turned}
 use borrow.Author.Needs.{needs}
 use Rattle.meet.proofs.strips.strip_apart.Statement.{statement}
 use Rattle.meet.proofs.strips.strip_apart.Tie as tie
 
--- the strip test is that of the values at the corners
-by-corners : (r q : Row) (s u : Point)
-    → stripApart r s u q ≡ beyond (valuesAt (cAt s u) (cornersOf q)) (r .cmin) (r .cmax) || beyond (valuesAt (tAt s u) (cornersOf q)) (r .tmin) (r .tmax)
-unfolding beyondCorners
-by-corners r q s u = refl
+turned-small : {u : Point} → Small u → Small (turned u)
+turned-small {u} h = record { x-in = record { abs = neg-bound (u .y) (h .y-in .abs) }; y-in = h .x-in }
 
-corners-on : {q : Row} → BoxOnSheet q → CornersOnSheet (cornersOf q)
-corners-on b = record {
-  a-on = record { x-in = b .xmin-in; y-in = b .ymin-in };
-  b-on = record { x-in = b .xmin-in; y-in = b .ymax-in };
-  c-on = record { x-in = b .xmax-in; y-in = b .ymin-in };
-  d-on = record { x-in = b .xmax-in; y-in = b .ymax-in };
-}
-
-corners-of-requires : tie.Need-corners-of-requires
-corners-of-requires c κs = search needs
-
-c-at-corners-requires : tie.Need-c-at-corners-requires
-c-at-corners-requires c κs =
-    let p = c .before .pre in (p .0, p .1, subst CornersOnSheet (sym (c .corners-of .ensures)) (corners-on (p .2)))
+turned-requires : tie.Need-turned-requires
+turned-requires c κs = search needs
 
 beyond-requires : tie.Need-beyond-requires
-beyond-requires c κs = search needs
+beyond-requires c κs =
+    let small = subst Small (sym (c .before .before .turned .ensures)) (turned-small (c .before .before .before .pre .1)) in search small
+
+-- what the first call says of c
+first : (c : tie.After-beyond) → let a = c .before .before .before .before .args in c .beyond .result ≡ beyondCorners (cAt (a .s) (a .u)) (a .r .cmin) (a .r .cmax) (a .q)
+first c =
+    let a = c .before .before .before .before .args in
+    let lo : SFits w64 (a .r .cmin) = search needs in
+    let hi : SFits w64 (a .r .cmax) = search needs in
+    c .beyond .ensures
+    ∙ (λ i. beyondCorners (tAt (a .s) (c .before .before .before .turned .ensures i)) (toZ-ofZ lo i) (toZ-ofZ hi i) (a .q))
+    ∙ sym (beyond-turned (a .s) (a .u) (a .r .cmin) (a .r .cmax) (a .q))
 
 returns : tie.Need-returns
 returns c =
-    let a = c .before .before .before .before .before .before .args in
-    let k = c .before .before .before .before .before .corners-of .ensures in
-    let v = c .before .before .before .before .c-at-corners .ensures ∙ (λ i. valuesAt (cAt (a .s) (a .u)) (k i)) in
-    let lo : SFits w64 (a .r .cmin) = search needs in
-    let hi : SFits w64 (a .r .cmax) = search needs in
-    let e : beyond (valuesAt (cAt (a .s) (a .u)) (cornersOf (a .q))) (a .r .cmin) (a .r .cmax) ≡ true =
-    sym (c .before .beyond .ensures ∙ (λ i. beyond (v i) (toZ-ofZ lo i) (toZ-ofZ hi i))) ∙ c .if1 .taken
-    in
-    sym (by-corners (a .r) (a .q) (a .s) (a .u) ∙ (λ i. e i || beyond (valuesAt (tAt (a .s) (a .u)) (cornersOf (a .q))) (a .r .tmin) (a .r .tmax)))
-
-t-at-corners-requires : tie.Need-t-at-corners-requires
-t-at-corners-requires c κs =
-    let p = c .before .before .before .before .before .before .pre in (p .0, p .1, subst CornersOnSheet (sym (c .before .before .before .before .before .corners-of .ensures)) (corners-on (p .2)))
+    let a = c .before .before .before .before .before .args in
+    let e = sym (first (c .before)) ∙ c .if1 .taken in
+    sym (λ i. e i || beyondCorners (tAt (a .s) (a .u)) (a .r .tmin) (a .r .tmax) (a .q))
 
 beyond-requires-2 : tie.Need-beyond-requires-2
 beyond-requires-2 c κs = search needs
 
 returns-2 : tie.Need-returns-2
 returns-2 c =
-    let a = c .before .before .before .before .before .before .before .before .before .before .args in
-    let k = c .before .before .before .before .before .before .before .before .before .corners-of .ensures in
-    let v = c .before .before .before .before .before .before .before .before .c-at-corners .ensures ∙ (λ i. valuesAt (cAt (a .s) (a .u)) (k i)) in
-    let w = c .before .before .before .t-at-corners .ensures ∙ (λ i. valuesAt (tAt (a .s) (a .u)) (k i)) in
-    let lo : SFits w64 (a .r .cmin) = search needs in
-    let hi : SFits w64 (a .r .cmax) = search needs in
-    let lo2 : SFits w64 (a .r .tmin) = search needs in
-    let hi2 : SFits w64 (a .r .tmax) = search needs in
-    let e : beyond (valuesAt (cAt (a .s) (a .u)) (cornersOf (a .q))) (a .r .cmin) (a .r .cmax) ≡ false =
-    sym (c .before .before .before .before .before .beyond .ensures ∙ (λ i. beyond (v i) (toZ-ofZ lo i) (toZ-ofZ hi i))) ∙ c .before .before .before .before .if1 .left
-    in
+    let a = c .before .before .before .before .before .before .before .before .args in
+    let lo : SFits w64 (a .r .tmin) = search needs in
+    let hi : SFits w64 (a .r .tmax) = search needs in
+    let e = sym (first (c .before .before .before .before)) ∙ c .before .before .before .if1 .left in
     c .beyond2 .ensures
-    ∙ (λ i. beyond (w i) (toZ-ofZ lo2 i) (toZ-ofZ hi2 i))
-    ∙ sym (by-corners (a .r) (a .q) (a .s) (a .u) ∙ (λ i. e i || beyond (valuesAt (tAt (a .s) (a .u)) (cornersOf (a .q))) (a .r .tmin) (a .r .tmax)))
+    ∙ (λ i. beyondCorners (tAt (a .s) (a .u)) (toZ-ofZ lo i) (toZ-ofZ hi i) (a .q))
+    ∙ sym (λ i. e i || beyondCorners (tAt (a .s) (a .u)) (a .r .tmin) (a .r .tmax) (a .q))
 
 pub strip-apart-spec : {M : Type 1} → statement M
 strip-apart-spec =
-    tie.close
-    (tie.spec
-    corners-of-requires
-    c-at-corners-requires
-    beyond-requires
-    returns
-    t-at-corners-requires
-    beyond-requires-2
-    returns-2)
+    tie.close (tie.spec turned-requires beyond-requires returns beyond-requires-2 returns-2)
