@@ -85,7 +85,7 @@ fn main() -> ExitCode {
     let began = Instant::now();
     let mut bench = Bench {
         race: Race {
-            repetitions: if options.quick { 5 } else { 25 },
+            repetitions: if options.quick { 4 } else { 24 },
         },
         report: Report::new(options.summary),
     };

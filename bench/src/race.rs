@@ -33,7 +33,12 @@ impl Times {
     }
 }
 
+/// The orders in which the lanes run, repetition after repetition: within them each lane follows each other one once. A lane that
+/// always came after the plain scan would always find the caches and the branch predictor as the scan leaves them.
+const ORDERS: [[usize; 4]; 4] = [[0, 1, 3, 2], [1, 2, 0, 3], [2, 3, 1, 0], [3, 0, 2, 1]];
+
 pub struct Race {
+    /// A multiple of the number of orders.
     pub repetitions: usize,
 }
 
@@ -41,7 +46,7 @@ struct Lane<'a> {
     runner: Runner<'a>,
     /// What every run must come to.
     sum: u64,
-    /// Runs in a repetition: enough to be timed, too short to be interrupted often.
+    /// Runs in a repetition: enough to be timed, and to get going after another lane; too short to be interrupted often.
     loops: u32,
     /// A slow plain scan runs in few repetitions.
     repetitions: usize,
@@ -49,8 +54,8 @@ struct Lane<'a> {
 }
 
 impl Race {
-    /// Times ours, the hand-written tree, the same in the prescribed form and the plain scan. Each repetition starts with another
-    /// of them. A runner that comes to another sum than before ends the run.
+    /// Times ours, the hand-written tree, the same in the prescribed form and the plain scan, in the orders above. A runner that
+    /// comes to another sum than before ends the run.
     pub fn run<'a>(
         &self,
         ours: Runner<'a>,
@@ -63,8 +68,8 @@ impl Race {
         let plain = plain.map(|runner| self.lane(runner, 3));
         let mut lanes = [ours, hand, form, plain];
         for repetition in 0..self.repetitions {
-            for turn in 0..lanes.len() {
-                let lane = &mut lanes[(repetition + turn) % 4];
+            for turn in ORDERS[repetition % ORDERS.len()] {
+                let lane = &mut lanes[turn];
                 if let Some(lane) = lane.as_mut().filter(|lane| repetition < lane.repetitions) {
                     let time = lane.timed();
                     lane.times.push(time);
@@ -93,7 +98,7 @@ impl Race {
 
     /// A runner that takes long runs in so many repetitions alone.
     fn lane<'a>(&self, runner: Runner<'a>, if_slow: usize) -> Lane<'a> {
-        const LEAST: Duration = Duration::from_micros(100);
+        const LEAST: Duration = Duration::from_micros(300);
         const SLOW: Duration = Duration::from_millis(20);
         let mut lane = Lane {
             runner,

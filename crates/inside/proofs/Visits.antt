@@ -16,7 +16,9 @@ use Rattle.rules.specs.Plain.{onSegment, crosses}
 use Rattle.rules.specs.Rows.{good}
 use Rattle.rules.specs.Walk.{Visit, refuse, finish, pass, halve}
 use Rattle.rules.specs.Questions.{leaf, splitIn, openNode, startOf, endOf, clearOf, count, inVisit}
+use Rattle.visits.specs.Small.{OnSheet}
 use Rattle.visits.proofs.Nodes.{good-read}
+use Rattle.visits.proofs.OnSheets.{on-sheet}
 use Rattle.row.specs.Parts.{frameGood, leafFits, splitFits}
 use Rattle.row.specs.Stands.{Stands, EndsOn}
 use Rattle.row.proofs.Parts.{between-parts}
@@ -76,14 +78,10 @@ visit-bad ps t z n r row g =
     let a = startOf ps n in
     let b = endOf ps n in sym (λ d. chosen ps z n r a b (g d) (clearAt r a b z) (leaf n)) ∙ as-read ps t z n r a b row refl refl
 
--- a row that was read, and the end points of its node, which are on the sheet
+-- a row that was read, of a node that stands and begins and ends on the sheet
 pub record RowRead (ps t : List ℤ) (n : Node) : Type 0 where
   pub row : Row
-  pub start : Point
-  pub end : Point
   pub row-is : row ≡ rowAt t (n .row)
-  pub start-is : start ≡ startOf ps n
-  pub end-is : end ≡ endOf ps n
   pub stands : Stands ps t n
   pub ends-on : EndsOn ps n
 
@@ -109,29 +107,30 @@ module _ (ps t : List ℤ) (z : Point) (n : Node) (m : RowRead ps t n) where
   pub frame-bad : frame ≡ false → Does n Bad (inVisit ps t z n)
   frame-bad f = (visit-bad ps t z n (m .row) (m .row-is) (parts f refl), tt)
 
-  -- of a good frame, the two tests that are left decide
-  framed-visit : {fine end : Bool} → fineOf ps n (m .row) ≡ fine → leaf n ≡ end
-      → chosen ps z n (m .row) (m .start) (m .end) fine (clearAt (m .row) (m .start) (m .end) z) end ≡ inVisit ps t z n
-  framed-visit g l =
-      sym (λ d. chosen ps z n (m .row) (m .start) (m .end) (g d) (clearAt (m .row) (m .start) (m .end) z) (l d))
-      ∙ as-read ps t z n (m .row) (m .start) (m .end) (m .row-is) (m .start-is) (m .end-is)
-
   -- what is said of a step is so of the one that it is
   told : {s s′ : Step} {v : Visit Bool Node} → s ≡ s′ → Does n s′ v → v ≡ inVisit ps t z n → Does n s (inVisit ps t z n)
   told e k v = (ap (stepVisit n) e ∙ k .0 ∙ v, subst (SplitsInside n) (sym e) (k .1))
 
-  pub leaf-visit : {s : Step} → frame ≡ true → leaf n ≡ true → s ≡ leafStep (m .row) (m .start) (m .end) z → Does n s (inVisit ps t z n)
-  leaf-visit f l e =
-      let fine = parts f l ∙ sym (λ d. leafRule (m .start-is d) (m .end-is d)) in
-      told e
-      (leaf-does n (leafRule (m .start) (m .end)) (clearAt (m .row) (m .start) (m .end) z) (onSegment z (m .start) (m .end)) (crosses z (m .start) (m .end)))
-      (framed-visit fine l)
+  -- the end points that were read
+  module _ {a b : Point} (from : a ≡ startOf ps n) (to : b ≡ endOf ps n) where
+    pub points-on : OnSheet a × OnSheet b
+    points-on =
+        (subst OnSheet (sym from) (on-sheet _ (m .ends-on .start-on)), subst OnSheet (sym to) (on-sheet _ (m .ends-on .end-on)))
 
-  pub inner-visit : {s : Step} → frame ≡ true → leaf n ≡ false → s ≡ innerStep (m .row) (n .first) (n .last) (m .start) (m .end) z
-      → Does n s (inVisit ps t z n)
-  inner-visit f l e =
-      let fine = parts f l in
-      told e
-      (inner-does (m .row) innerRule (clearAt (m .row) (m .start) (m .end) z) (crosses z (m .start) (m .end)) (m .stands)
-      (λ k. good-read ps (m .row) (n .first) (n .last) (subst T (sym fine) k) .split-between (leb-false (n .last) _ l)))
-      (framed-visit fine l)
+    -- of a good frame, the two tests that are left decide
+    framed-visit : {fine end : Bool} → fineOf ps n (m .row) ≡ fine → leaf n ≡ end
+        → chosen ps z n (m .row) a b fine (clearAt (m .row) a b z) end ≡ inVisit ps t z n
+    framed-visit g l = sym (λ d. chosen ps z n (m .row) a b (g d) (clearAt (m .row) a b z) (l d)) ∙ as-read ps t z n (m .row) a b (m .row-is) from to
+
+    pub leaf-visit : {s : Step} → frame ≡ true → leaf n ≡ true → s ≡ leafStep (m .row) a b z → Does n s (inVisit ps t z n)
+    leaf-visit f l e =
+        let fine = parts f l ∙ sym (λ d. leafRule (from d) (to d)) in
+        told e (leaf-does n (leafRule a b) (clearAt (m .row) a b z) (onSegment z a b) (crosses z a b)) (framed-visit fine l)
+
+    pub inner-visit : {s : Step} → frame ≡ true → leaf n ≡ false → s ≡ innerStep (m .row) (n .first) (n .last) a b z → Does n s (inVisit ps t z n)
+    inner-visit f l e =
+        let fine = parts f l in
+        told e
+        (inner-does (m .row) innerRule (clearAt (m .row) a b z) (crosses z a b) (m .stands)
+        (λ k. good-read ps (m .row) (n .first) (n .last) (subst T (sym fine) k) .split-between (leb-false (n .last) _ l)))
+        (framed-visit fine l)

@@ -3,6 +3,7 @@
 use line::Checked;
 use line::c_at;
 use line::check_lengths;
+use line::direction;
 use line::early;
 use line::on_sheet;
 use line::point_at;
@@ -12,7 +13,6 @@ use line::t_at;
 use row::row_at;
 use row::split_of;
 use rules::Line;
-use rules::Next;
 use rules::Node;
 use rules::Point;
 use rules::Row;
@@ -27,13 +27,14 @@ ghost use lib.Signed.{ltZ};
 ghost use Rattle.rules.specs.Build.{holdsNumber};
 ghost use Rattle.rules.specs.Plane.{direction};
 ghost use Rattle.rules.specs.Plain.{rangeHolds, onSegment, lowHigh, sideOf, crosses};
-ghost use Rattle.rules.specs.Questions.{outside, clearOf, count, inVisit, sideOfRing, inReply};
+ghost use Rattle.rules.specs.Questions.{leaf, outside, clearOf, count, inVisit, inWalk, sideOfRing, inReply};
 ghost use Rattle.rules.specs.Reply.{sideReply};
 ghost use Rattle.rules.specs.Rows.{ringCheck};
-ghost use Rattle.rules.specs.Walk.{over, walk};
+ghost use Rattle.rules.specs.Walk.{over, fresh, walk};
 ghost use Rattle.visits.specs.Small.{OnSheet, Small};
+ghost use Rattle.line.specs.Fine.{LengthsFine};
 ghost use Rattle.row.specs.Stands.{Stands, EndsOn};
-ghost use Rattle.row.specs.Came.{cameTo};
+ghost use Rattle.row.specs.Came.{endIn, ENDED, oddIn, tallyIn, cameTo};
 ghost use Rattle.inside.specs.Said.{leafStep, innerStep, stepVisit, SplitsInside};
 
 // Whether v lies between lo and hi.
@@ -129,15 +130,12 @@ fn clear_along(r: Row, s: Point, u: Point, z: Point) -> bool
     outside(r.tmin, r.tmax, t_at(s, u, z))
 }
 
-// The same of a node from a to b. Only a closed run heads another way than along its step, so that way is a branch.
+// The same of a node from a to b.
 fn clear_of(r: Row, a: Point, b: Point, z: Point) -> bool
     requires { ⌜ OnSheet a × OnSheet b × OnSheet z ⌝ }
     ensures { λ g. ⌜ g ≡ clearOf r a (direction a b) z ⌝ }
 {
-    if same_point(a, b) {
-        return clear_along(r, a, Point { x: 1, y: 0 }, z);
-    }
-    clear_along(r, a, step(a, b), z)
+    clear_along(r, a, direction(a, b), z)
 }
 
 // What one visit does: refused by 10, on-edge, whether to count one crossing, or the halves at a split.
@@ -160,7 +158,7 @@ fn test_leaf(z: Point, a: Point, b: Point) -> Step
 }
 
 // A leaf whose frame is good: its points differ, so it heads along its step.
-fn visit_leaf(r: Row, a: Point, b: Point, z: Point) -> Step
+fn leaf_step(r: Row, a: Point, b: Point, z: Point) -> Step
     requires { ⌜ OnSheet a × OnSheet b × OnSheet z ⌝ }
     ensures { λ g. ⌜ g ≡ leafStep r a b z ⌝ }
 {
@@ -174,7 +172,7 @@ fn visit_leaf(r: Row, a: Point, b: Point, z: Point) -> Step
 }
 
 // A node of more segments whose frame is good: z clear of it counts the chord alone.
-fn visit_inner(r: Row, first: usize, last: usize, a: Point, b: Point, z: Point) -> Step
+fn inner_step(r: Row, first: usize, last: usize, a: Point, b: Point, z: Point) -> Step
     requires { ⌜ (first < last) × (last < 4097) ⌝ }
     requires { ⌜ OnSheet a × OnSheet b × OnSheet z ⌝ }
     ensures { λ g. ⌜ g ≡ innerStep r first last a b z ⌝ }
@@ -188,86 +186,118 @@ fn visit_inner(r: Row, first: usize, last: usize, a: Point, b: Point, z: Point) 
     Step::Halve(split_of(r))
 }
 
-// One visit of a node that begins and ends on the sheet: the row is read, and its frame asked first.
-fn visit(points: &[i32], table: &[i32], node: Node, z: Point) -> Step
+// A visit of a leaf that begins and ends on the sheet. It reads its row by itself, as the visit of a longer node does, so that
+// each holds in registers what it needs.
+fn visit_leaf(points: &[i32], table: &[i32], node: Node, z: Point) -> Step
     requires { ⌜ Stands (now points) (now table) node × EndsOn (now points) node × OnSheet z ⌝ }
+    requires { ⌜ leaf node ≡ true ⌝ }
     ensures { λ r. ⌜ stepVisit node r ≡ inVisit (now (points .entry)) (now (table .entry)) z node ⌝ }
     ensures { λ r. ⌜ SplitsInside node r ⌝ }
 {
     let first = node.first;
     let last = node.last;
     let r = row_at(table, node.row);
-    let a = point_at(points, first);
-    let b = point_at(points, last);
     if !row::frame_good(r, first, last) {
         return Step::Bad;
     }
-    if last <= first + 1 {
-        return visit_leaf(r, a, b, z);
+    let a = point_at(points, first);
+    let b = point_at(points, last);
+    leaf_step(r, a, b, z)
+}
+
+// A visit of a node of more segments.
+fn visit_inner(points: &[i32], table: &[i32], node: Node, z: Point) -> Step
+    requires { ⌜ Stands (now points) (now table) node × EndsOn (now points) node × OnSheet z ⌝ }
+    requires { ⌜ leaf node ≡ false ⌝ }
+    ensures { λ r. ⌜ stepVisit node r ≡ inVisit (now (points .entry)) (now (table .entry)) z node ⌝ }
+    ensures { λ r. ⌜ SplitsInside node r ⌝ }
+{
+    let first = node.first;
+    let last = node.last;
+    let r = row_at(table, node.row);
+    if !row::frame_good(r, first, last) {
+        return Step::Bad;
     }
-    visit_inner(r, first, last, a, b, z)
+    let a = point_at(points, first);
+    let b = point_at(points, last);
+    inner_step(r, first, last, a, b, z)
+}
+
+fn visit(points: &[i32], table: &[i32], node: Node, z: Point) -> Step
+    requires { ⌜ Stands (now points) (now table) node × EndsOn (now points) node × OnSheet z ⌝ }
+    ensures { λ r. ⌜ stepVisit node r ≡ inVisit (now (points .entry)) (now (table .entry)) z node ⌝ }
+    ensures { λ r. ⌜ SplitsInside node r ⌝ }
+{
+    if node.last <= node.first + 1 {
+        return visit_leaf(points, table, node, z);
+    }
+    visit_inner(points, table, node, z)
 }
 
 // Counts are added; only odd or even matters.
-fn add(odd: bool, crossed: bool) -> bool
-    ensures { λ r. ⌜ r ≡ count crossed odd ⌝ }
+fn add(made: u64, crossed: bool) -> u64
+    requires { ⌜ endIn made < ENDED ⌝ }
+    ensures { λ r. ⌜ ((allowance : ℕ) → cameTo false true Line.LineA Line.LineA allowance r ≡ over (count crossed (oddIn made)) (tallyIn allowance made)) ⌝ }
 {
-    if odd {
-        return !crossed;
+    if crossed {
+        return row::flipped(made);
     }
-    crossed
+    made
 }
 
-// A walk that is over, with whether its count is odd.
-fn over(visits: u32, odd: bool) -> u64
-    ensures { λ r. ⌜ ((allowance : ℕ) → cameTo false true Line.LineA Line.LineA allowance r ≡ over odd (record { allowance = allowance; visits = visits })) ⌝ }
-{
-    if odd {
-        return row::came(visits, row::ODD);
-    }
-    row::came(visits, row::EVEN)
-}
-
-// The walk of a node: the left half, then the right half, with the count handed on. Plain numbers and thin references go
-// in, and one number comes out, so that all of them stay in registers. A split off the sheet makes the left half's row bad.
+// The walk of a node: the left half, then the right half, with the visits made and the count handed on as one number. Plain
+// numbers and thin references stay in registers. A split off the sheet makes the left half's row bad.
 fn walk(
     points: &&[i32],
     table: &&[i32],
     row: usize,
     first: usize,
     last: usize,
-    odd: bool,
+    so_far: u64,
     x: i64,
     y: i64,
     allowance: u32,
-    visits: u32,
 ) -> u64
-    requires { ⌜ Stands (now (now points)) (now (now table)) (record { row = row; first = first; last = last }) × EndsOn (now (now points)) (record { row = row; first = first; last = last }) × OnSheet (record { x = x; y = y }) ⌝ }
-    ensures { λ r. ⌜ ((f : ℕ) → last ≤ f + first → cameTo false true Line.LineA Line.LineA allowance r ≡ walk (inVisit (now (now (points .entry))) (now (now (table .entry))) (record { x = x; y = y })) f (record { row = row; first = first; last = last }) odd (record { allowance = allowance; visits = visits })) ⌝ }
+    requires { ⌜ Stands (now (now points)) (now (now table)) (record { row = row; first = first; last = last }) × EndsOn (now (now points)) (record { row = row; first = first; last = last }) × OnSheet (record { x = x; y = y }) × (endIn «so_far» < ENDED) ⌝ }
+    ensures { λ r. ⌜ ((f : ℕ) → last ≤ f + first → cameTo false true Line.LineA Line.LineA allowance r ≡ walk (inVisit (now (now (points .entry))) (now (now (table .entry))) (record { x = x; y = y })) f (record { row = row; first = first; last = last }) (oddIn «so_far») (tallyIn allowance «so_far»)) ⌝ }
 {
-    let Next::Left(counted) = (Tally { allowance, visits }).visit() else {
+    if row::spent(so_far, allowance) {
         return row::came(0, row::SPENT);
-    };
-    let made = counted.visits;
+    }
+    let made = row::visited(so_far);
     match visit(*points, *table, Node { row, first, last }, Point { x, y }) {
-        Step::Bad => row::bad_row(made, row),
-        Step::Finish => row::came(made, row::ENDED),
-        Step::Pass(crossed) => over(made, add(odd, crossed)),
+        Step::Bad => row::bad_row(row::visits_in(made), row),
+        Step::Finish => row::came(row::visits_in(made), row::ENDED),
+        Step::Pass(crossed) => add(made, crossed),
         Step::Halve(mid) => {
             let next = row + 1;
             if !on_sheet(point_at(*points, mid)) {
-                return row::bad_row_due(counted, next);
+                return row::bad_row_due(row::tally_in(allowance, made), next);
             }
-            let left = walk(points, table, next, first, mid, odd, x, y, allowance, made);
+            let left = walk(points, table, next, first, mid, made, x, y, allowance);
             if row::stopped(left) {
                 return left;
             }
             let right = row + 2 * (mid - first);
-            let odd = row::end_in(left) == row::ODD;
-            let made = row::visits_in(left);
-            walk(points, table, right, mid, last, odd, x, y, allowance, made)
+            walk(points, table, right, mid, last, left, x, y, allowance)
         }
     }
+}
+
+// The walk from the root, unless the line begins or ends off the sheet: then its root's row is bad.
+fn ask(points: &&[i32], table: &&[i32], z: Point, allowance: u32) -> u64
+    requires { ⌜ LengthsFine (now (now points)) (now (now table)) × OnSheet z ⌝ }
+    ensures { λ r. ⌜ cameTo false true Line.LineA Line.LineA allowance r ≡ inWalk (now (now (points .entry))) (now (now (table .entry))) z (fresh allowance) ⌝ }
+{
+    if !row::ends_on_sheet(*points) {
+        let fresh = Tally {
+            allowance,
+            visits: 0,
+        };
+        return row::bad_row_due(fresh, 0);
+    }
+    let last = points.len() / 2 - 1;
+    walk(points, table, 0, 0, last, 0, z.x, z.y, allowance)
 }
 
 // Refusal 9: fewer than 4 points, or first and last differ.
@@ -288,11 +318,11 @@ fn side_of_ring(came: u64, allowance: u32) -> Side
 {
     let end = row::end_in(came);
     let visits = row::visits_in(came);
-    if end == row::EVEN {
+    if end < row::ENDED {
+        if end == row::ODD {
+            return Side::Inside(visits);
+        }
         return Side::Outside(visits);
-    }
-    if end == row::ODD {
-        return Side::Inside(visits);
     }
     if end == row::ENDED {
         return Side::OnEdge(visits);
@@ -316,16 +346,5 @@ pub fn inside(points: &[i32], table: &[i32], z: Point, allowance: u32) -> Side
     if no_ring(points) {
         return Side::Refused(early(9, Line::LineA));
     }
-    if !row::ends_on_sheet(points) {
-        let fresh = Tally {
-            allowance,
-            visits: 0,
-        };
-        return side_of_ring(row::bad_row_due(fresh, 0), allowance);
-    }
-    let last = points.len() / 2 - 1;
-    side_of_ring(
-        walk(&points, &table, 0, 0, last, false, z.x, z.y, allowance, 0),
-        allowance,
-    )
+    side_of_ring(ask(&points, &table, z, allowance), allowance)
 }

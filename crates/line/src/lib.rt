@@ -53,6 +53,23 @@ pub fn on_sheet(p: Point) -> bool
     in_sheet(p.x) && in_sheet(p.y)
 }
 
+// The limit for a number of a slice.
+const NUMBER_LIMIT: i32 = 16383;
+
+fn number_in_sheet(v: i32) -> bool
+    ensures { λ r. ⌜ r ≡ inSheet v ⌝ }
+{
+    (-NUMBER_LIMIT <= v) & (v <= NUMBER_LIMIT)
+}
+
+// Whether point i of a line is on the sheet, asked of its numbers as they stand: vector instructions compare four of them at once.
+pub fn on_sheet_at(points: &[i32], i: usize) -> bool
+    requires { ⌜ 2 * i + 1 < length (now points) ⌝ }
+    ensures { λ r. ⌜ r ≡ onSheet (point (now (points .entry)) i) ⌝ }
+{
+    number_in_sheet(points[2 * i]) & number_in_sheet(points[2 * i + 1])
+}
+
 pub fn same_point(a: Point, b: Point) -> bool
     ensures { λ r. ⌜ r ≡ samePoint a b ⌝ }
 {

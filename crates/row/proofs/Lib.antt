@@ -3,3 +3,4 @@ pub mod Parts
 pub mod Places
 pub mod Ends
 pub mod Dues
+pub mod SoFar

@@ -1,5 +1,5 @@
 -- How a walk came to its end, in one number: the visits made in the upper half, how it ended in the lower.
-use mathlib.Core.Bool.{cond}
+use mathlib.Core.Bool.{Bool, cond}
 use Prim.Native.Nat.{ℕ, _+_, _*_, _-_, _/_, _%_}
 use lib.Dec.{ltb, eqb}
 use Rattle.rules.specs.declared.Line.{Line}
@@ -40,6 +40,10 @@ badRow = 4
 
 abbrev pub badSecond : ℕ
 badSecond = 65536
+
+-- whether a walk that is over has an odd count
+abbrev pub oddIn : ℕ → Bool
+oddIn r = eqb (endIn r) ODD
 
 abbrev pub refusalAt : Line → ℕ → ℕ → Refusal
 refusalAt l place visits = record { number = 10; line = l; place = place; visits = visits }

@@ -1,6 +1,7 @@
 // Rows as the machine reads them: a row out of a table, the row rules of refusal 10, and how a walk came to its end. Every function says its result by a definition of `rules`.
 use line::LIMIT;
 use line::on_sheet;
+use line::on_sheet_at;
 use line::point_at;
 use line::same_point;
 use rules::Answer;
@@ -13,7 +14,7 @@ use rules::Tally;
 use whole::wide;
 ghost use mathlib.Core.Path.{_≡_};
 ghost use mathlib.Core.Bool.{_&&_};
-ghost use Prim.Native.Nat.{_+_, _*_, _<_, _≤_};
+ghost use Prim.Native.Nat.{_+_, _*_, _-_, _<_, _≤_};
 ghost use lib.Dec.{T, leb};
 ghost use lib.IntN.{pos};
 ghost use lib.ListN.{length};
@@ -25,7 +26,7 @@ ghost use Rattle.rules.specs.Rows.{rangeGood, stripGood, sideGood, boxGood, end
 ghost use Rattle.rules.specs.Walk.{next};
 ghost use Rattle.rules.specs.Questions.{splitIn, yesOrNo};
 ghost use Rattle.row.specs.Parts.{frameGood, leafFits, splitFits};
-ghost use Rattle.row.specs.Came.{came, visitsIn, endIn, ENDED, badRow, badSecond, refusalIn, tallyIn, due, cameTo};
+ghost use Rattle.row.specs.Came.{half, came, visitsIn, endIn, ENDED, badRow, badSecond, refusalIn, tallyIn, due, cameTo};
 
 // Row r of a table.
 pub fn row_at(table: &[i32], r: usize) -> Row
@@ -144,7 +145,7 @@ pub fn ends_on_sheet(points: &[i32]) -> bool
     ensures { λ g. ⌜ g ≡ endsGood (now (points .entry)) 0 (segmentsOf (now (points .entry))) ⌝ }
 {
     let last = points.len() / 2 - 1;
-    on_sheet(point_at(points, 0)) && on_sheet(point_at(points, last))
+    on_sheet_at(points, 0) & on_sheet_at(points, last)
 }
 
 // The split of a good row that is not a leaf's.
@@ -201,6 +202,29 @@ pub fn tally_in(allowance: u32, came: u64) -> Tally
         allowance,
         visits: visits_in(came),
     }
+}
+
+// A walk so far is such a number as well, over with an even or an odd count. Whether no visit is left to it,
+pub fn spent(made: u64, allowance: u32) -> bool
+    ensures { λ r. ⌜ r ≡ leb allowance (visitsIn made) ⌝ }
+{
+    came(allowance, EVEN) <= made
+}
+
+// the same after one visit more,
+pub fn visited(made: u64) -> u64
+    requires { ⌜ visitsIn made + 1 < half ⌝ }
+    ensures { λ r. ⌜ r ≡ came (visitsIn made + 1) (endIn made) ⌝ }
+{
+    made + came(1, EVEN)
+}
+
+// and with a count that is odd where it was even, and even where it was odd.
+pub fn flipped(made: u64) -> u64
+    requires { ⌜ endIn made < ENDED ⌝ }
+    ensures { λ r. ⌜ r ≡ came (visitsIn made) (1 - endIn made) ⌝ }
+{
+    made ^ 1
 }
 
 // Refused for a bad row of the first line.

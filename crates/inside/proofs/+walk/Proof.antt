@@ -1,8 +1,8 @@
 -- `walk` takes one level of the written walk. The number of segments in the range falls. A split off the sheet is refused
 -- in place of the left half, whose row it makes bad.
 use mathlib.Core.Path.{_≡_, refl, sym, _∙_, ap, subst}
-use mathlib.Core.Bool.{Bool, true, false, cond}
-use Prim.Native.Nat.{ℕ, zero, suc, pred, _+_, _-_, _<_, _≤_}
+use mathlib.Core.Bool.{Bool, true, false}
+use Prim.Native.Nat.{ℕ, pred, _+_, _-_, _<_, _≤_}
 use native.Mathlib.Omega.{arith}
 use borrow.Author.Tests.{leb-false, not-true, not-false}
 use lib.Dec.{T, eqb, leb}
@@ -15,10 +15,11 @@ use Rattle.rules.specs.declared.Next.the-variants.{Left, Spent}
 use Rattle.rules.specs.Sheet.{point, onSheet}
 use Rattle.rules.specs.Walk.{next, Visit, Walked, ended, over, goOn}
 use Rattle.rules.specs.Walk.{walk as writtenWalk}
-use Rattle.rules.specs.Questions.{leftOf, rightOf, inVisit}
+use Rattle.rules.specs.Questions.{leftOf, rightOf, count, inVisit}
 use Rattle.visits.proofs.Levels.{none-left, visited, halved}
-use Rattle.row.specs.Came.{endIn, ENDED, badRow, tallyIn, cameTo}
-use Rattle.row.proofs.Ends.{reads-ended, reads-spent, reads-bad, stops, goes, keeps}
+use Rattle.row.specs.Came.{came, visitsIn, endIn, ODD, ENDED, badRow, oddIn, tallyIn, due, cameTo}
+use Rattle.row.proofs.Ends.{end-in, reads-ended, reads-spent, reads-bad, stops}
+use Rattle.row.proofs.SoFar.{next-spent, next-left, goes-on}
 use Rattle.row.proofs.Parts.{end-off}
 use Rattle.row.proofs.Places.{row-small, split-small, left-stands, right-stands, left-ends, right-ends}
 use Rattle.row.proofs.Dues.{due-stops, reads-bad-due}
@@ -34,17 +35,17 @@ use Rattle.inside.proofs.walk.Reads as walk
 use Rattle.inside.proofs.walk.Kinds as walk-kinds
 use Rattle.inside.proofs.+walk.Lts-walk as walk-lts
 use Rattle.inside.proofs.add.Reads as add-reads
-use Rattle.inside.proofs.over.Reads as over-reads
 use Rattle.inside.proofs.visit.Reads as visit-reads
 use Rattle.line.proofs.on_sheet.Reads as on-sheet-reads
 use Rattle.line.proofs.point_at.Reads as point-at-reads
 use Rattle.row.proofs.bad_row.Reads as bad-row-reads
 use Rattle.row.proofs.bad_row_due.Reads as bad-row-due-reads
 use Rattle.row.proofs.came.Reads as came-reads
-use Rattle.row.proofs.end_in.Reads as end-in-reads
+use Rattle.row.proofs.spent.Reads as spent-reads
 use Rattle.row.proofs.stopped.Reads as stopped-reads
+use Rattle.row.proofs.tally_in.Reads as tally-in-reads
+use Rattle.row.proofs.visited.Reads as visited-reads
 use Rattle.row.proofs.visits_in.Reads as visits-in-reads
-use Rattle.rules.proofs.Tally.visit.Reads as Tally-visit-reads
 use Rattle.inside.proofs.+walk.{statement}
 use Rattle.inside.proofs.+walk.Tie.{close}
 
@@ -60,51 +61,51 @@ walk-below t = and 4 walk-kinds.ps (falls 4 walk-kinds.ps _<_ μ-walk t) walk.Pr
 -- what is known of the functions that it calls
 abbrev claims : ℕ → walk-lts.Claims
 claims t = (
-  Tally-visit-reads.Asked,
-  Tally-visit-reads.Learnt,
+  spent-reads.Asked,
+  spent-reads.Learnt,
   came-reads.Asked,
   came-reads.Learnt,
+  visited-reads.Asked,
+  visited-reads.Learnt,
   visit-reads.Asked,
   visit-reads.Learnt,
+  visits-in-reads.Asked,
+  visits-in-reads.Learnt,
   bad-row-reads.Asked,
   bad-row-reads.Learnt,
   add-reads.Asked,
   add-reads.Learnt,
-  over-reads.Asked,
-  over-reads.Learnt,
   point-at-reads.Asked,
   point-at-reads.Learnt,
   on-sheet-reads.Asked,
   on-sheet-reads.Learnt,
+  tally-in-reads.Asked,
+  tally-in-reads.Learnt,
   bad-row-due-reads.Asked,
   bad-row-due-reads.Learnt,
   walk-below t,
   walk.Post,
   stopped-reads.Asked,
   stopped-reads.Learnt,
-  end-in-reads.Asked,
-  end-in-reads.Learnt,
-  visits-in-reads.Asked,
-  visits-in-reads.Learnt,
 )
 
--- a walk that is over has an even count or an odd one
-odd-or-even : (k : ℕ) → k < ENDED → eqb k 1 ≡ cond (eqb k 0) false true
-odd-or-even zero h = refl
-odd-or-even (suc zero) h = refl
-odd-or-even (suc (suc k)) h = absurd (omega arith)
-
 module _ (t : ℕ) where
-  -- the places of the code: at its start, after a visit, at a split, once its point is looked at, and once the left half is
-  -- walked
+  -- the places of the code: at its start, once a visit is left, once it is counted and made, at a split, once its point is
+  -- looked at, and once the left half is walked
   abbrev Start : Type 0
   Start = walk-lts.Start (claims t) (walk-at t) walk.Post
 
+  abbrev Unspent : Type 0
+  Unspent = walk-lts.Else1 (claims t) (walk-at t) walk.Post
+
+  abbrev Counted : Type 0
+  Counted = walk-lts.After-visited (claims t) (walk-at t) walk.Post
+
   abbrev Seen : Type 0
-  Seen = walk-lts.After-visit2 (claims t) (walk-at t) walk.Post
+  Seen = walk-lts.After-visit (claims t) (walk-at t) walk.Post
 
   abbrev Split : Type 0
-  Split = walk-lts.After-known-told3 (claims t) (walk-at t) walk.Post
+  Split = walk-lts.After-known-told2 (claims t) (walk-at t) walk.Post
 
   abbrev Looked : Type 0
   Looked = walk-lts.After-on-sheet (claims t) (walk-at t) walk.Post
@@ -112,8 +113,14 @@ module _ (t : ℕ) where
   abbrev LeftWalked : Type 0
   LeftWalked = walk-lts.After-walk (claims t) (walk-at t) walk.Post
 
+  abbrev from : Unspent → Start
+  from c = c .before .before
+
+  abbrev counted : Seen → Counted
+  counted c = c .before .before .before
+
   abbrev start : Seen → Start
-  start c = c .before .before .before .before .before .before .before
+  start c = from (counted c .before)
 
   abbrev seen : Split → Seen
   seen c = c .before .before .before
@@ -124,7 +131,7 @@ module _ (t : ℕ) where
   abbrev looking : LeftWalked → Looked
   looking c = c .before .before
 
-  -- the node and the point that the numbers make
+  -- the node and the point that the numbers make, and what the number so far is read as
   module _ (s : Start) where
     abbrev node : Node
     node = record { row = s .args .row; first = s .args .first; last = s .args .last }
@@ -132,8 +139,14 @@ module _ (t : ℕ) where
     abbrev z : Point
     z = record { x = s .args .x; y = s .args .y }
 
+    abbrev odd : Bool
+    odd = oddIn (s .args .so-far)
+
+    abbrev tallyOf : ℕ → Tally
+    tallyOf = tallyIn (s .args .allowance)
+
     abbrev tally : Tally
-    tally = record { allowance = s .args .allowance; visits = s .args .visits }
+    tally = tallyOf (s .args .so-far)
 
     -- what a visit of a node does, the written walk from the node, and what a number is read as
     abbrev doesAt : Point → Node → Visit Bool Node
@@ -143,7 +156,7 @@ module _ (t : ℕ) where
     does = doesAt z
 
     abbrev walks : ℕ → Walked Bool
-    walks f = writtenWalk does f node (s .args .odd) tally
+    walks f = writtenWalk does f node odd tally
 
     abbrev read : ℕ → Walked Bool
     read = cameTo false true LineA LineA (s .args .allowance)
@@ -155,51 +168,66 @@ module _ (t : ℕ) where
     some-level : (f : ℕ) → s .args .last ≤ f + s .args .first → 0 < f
     some-level f h = omega (arith, s .pre .1 .0 .some-segment)
 
-  -- the tally of this visit
-  abbrev counted : Seen → Tally
-  counted c = c .before .before .before .before .counted .given .0 .0
-
-  made : (c : Seen) → next (tally (start c)) ≡ Left (counted c)
-  made c = sym (c .before .before .before .before .before .before .visit .ensures) ∙ c .before .before .before .before .counted .given .1
-
-  kept : (c : Seen) → counted c .allowance ≡ start c .args .allowance
-  kept c = keeps (tally (start c)) (counted c) (made c)
-
-  did : (c : Seen) {v : Step} → c .visit2 .result ≡ v → stepVisit (node (start c)) v ≡ does (start c) (node (start c))
-  did c e =
-      let s = start c in ap (stepVisit (node s)) (sym e) ∙ c .visit2 .ensures .0 ∙ (λ d. doesAt s (same s d) (node s))
-
-  visit-requires : walk-lts.Need-visit-requires (claims t) (walk-at t) walk.Post
-  visit-requires c κs = search needs
-
-  enum-known-counted : walk-lts.Need-enum-known-counted (claims t) (walk-at t) walk.Post
-  enum-known-counted c = search needs
-
-  enum-told : walk-lts.Need-enum-told (claims t) (walk-at t) walk.Post
-  enum-told c = search needs
+  spent-requires : walk-lts.Need-spent-requires (claims t) (walk-at t) walk.Post
+  spent-requires c κs = search needs
 
   came-requires : walk-lts.Need-came-requires (claims t) (walk-at t) walk.Post
   came-requires c κs = search needs
 
   returns : walk-lts.Need-returns (claims t) (walk-at t) walk.Post
   returns c f h =
-      let s = c .before .before .before .before in
-      let e : next (tally s) ≡ Spent = cc in
+      let k = c .before .before in
+      let s = k .before in
       ap (read s) (c .came .ensures)
       ∙ reads-spent false true LineA LineA _ 0
-      ∙ none-left (does s) (node s) (s .args .odd) (tally s) f (some-level s f h) e
+      ∙ none-left (does s) (node s) (odd s) (tally s) f (some-level s f h) (next-spent (s .args .allowance) (s .args .so-far) (sym (k .spent .ensures) ∙ c .before .if1 .taken))
 
-  visit-requires-2 : walk-lts.Need-visit-requires-2 (claims t) (walk-at t) walk.Post
-  visit-requires-2 c κs = let s = c .before .before .before .before .before .before in (s .pre .1 .0, s .pre .1 .1, stored-on (s .pre .1 .2))
+  -- a visit is left, so one more can be counted
+  unspent : (c : Unspent) → leb (from c .args .allowance) (visitsIn (from c .args .so-far)) ≡ false
+  unspent c = sym (c .before .spent .ensures) ∙ c .if1 .left
+
+  visited-requires : walk-lts.Need-visited-requires (claims t) (walk-at t) walk.Post
+  visited-requires c κs =
+      let a = from c .args in
+      let more = leb-false (a .allowance) (visitsIn (a .so-far)) (unspent c) in omega (arith, more, from c .fits .allowance .fits)
+
+  -- the number with this visit: its tally is the next one, and its count the same
+  abbrev number : Counted → ℕ
+  number c = c .visited .result
+
+  made : (c : Counted) → next (tally (from (c .before))) ≡ Left (tallyOf (from (c .before)) (number c))
+  made c = let s = from (c .before) in next-left (s .args .allowance) (s .args .so-far) (unspent (c .before)) ∙ ap (λ (n : ℕ). Left (tallyOf s n)) (sym (c .visited .ensures))
+
+  end-kept : (c : Counted) → endIn (number c) ≡ endIn (from (c .before) .args .so-far)
+  end-kept c = let small = from (c .before) .pre .1 .3 in ap endIn (c .visited .ensures) ∙ end-in _ _ (omega arith)
+
+  odd-kept : (c : Counted) → oddIn (number c) ≡ odd (from (c .before))
+  odd-kept c = ap (λ (e : ℕ). eqb e ODD) (end-kept c)
+
+  still-over : (c : Counted) → endIn (number c) < ENDED
+  still-over c = subst (λ (e : ℕ). e < ENDED) (sym (end-kept c)) (from (c .before) .pre .1 .3)
+
+  did : (c : Seen) {v : Step} → c .visit .result ≡ v → stepVisit (node (start c)) v ≡ does (start c) (node (start c))
+  did c e =
+      let s = start c in ap (stepVisit (node s)) (sym e) ∙ c .visit .ensures .0 ∙ (λ d. doesAt s (same s d) (node s))
+
+  visit-requires : walk-lts.Need-visit-requires (claims t) (walk-at t) walk.Post
+  visit-requires c κs = let s = from (c .before .before .before) in (s .pre .1 .0, s .pre .1 .1, stored-on (s .pre .1 .2))
+
+  enum-told : walk-lts.Need-enum-told (claims t) (walk-at t) walk.Post
+  enum-told c = search needs
+
+  visits-in-requires : walk-lts.Need-visits-in-requires (claims t) (walk-at t) walk.Post
+  visits-in-requires c κs = search needs
+
+  bad-row-requires : walk-lts.Need-bad-row-requires (claims t) (walk-at t) walk.Post
+  bad-row-requires c κs = row-small (start (c .before .before .before) .pre .1 .0)
 
   enum-told-2 : walk-lts.Need-enum-told-2 (claims t) (walk-at t) walk.Post
   enum-told-2 c = search needs
 
-  bad-row-requires : walk-lts.Need-bad-row-requires (claims t) (walk-at t) walk.Post
-  bad-row-requires c κs = row-small (start (c .before .before) .pre .1 .0)
-
-  enum-told-3 : walk-lts.Need-enum-told-3 (claims t) (walk-at t) walk.Post
-  enum-told-3 c = search needs
+  visits-in-requires-2 : walk-lts.Need-visits-in-requires-2 (claims t) (walk-at t) walk.Post
+  visits-in-requires-2 c κs = search needs
 
   came-requires-2 : walk-lts.Need-came-requires-2 (claims t) (walk-at t) walk.Post
   came-requires-2 c κs = search needs
@@ -208,10 +236,7 @@ module _ (t : ℕ) where
   enum-known-crossed c = search needs
 
   add-requires : walk-lts.Need-add-requires (claims t) (walk-at t) walk.Post
-  add-requires c κs = search needs
-
-  over-requires : walk-lts.Need-over-requires (claims t) (walk-at t) walk.Post
-  over-requires c κs = search needs
+  add-requires c κs = still-over (counted (c .before .before .before))
 
   enum-known-mid : walk-lts.Need-enum-known-mid (claims t) (walk-at t) walk.Post
   enum-known-mid c = search needs
@@ -221,7 +246,7 @@ module _ (t : ℕ) where
   mid c = c .before .mid .given .0 .0
 
   inner : (c : Split) → SplitsInside (node (start (seen c))) (Halve (mid c))
-  inner c = subst (SplitsInside (node (start (seen c)))) (c .before .mid .given .1) (seen c .visit2 .ensures .1)
+  inner c = subst (SplitsInside (node (start (seen c)))) (c .before .mid .given .1) (seen c .visit .ensures .1)
 
   add-next : walk-lts.Need-add-next (claims t) (walk-at t) walk.Post
   add-next c = let small = row-small (start (seen c) .pre .1 .0) in omega arith
@@ -242,35 +267,41 @@ module _ (t : ℕ) where
   next-small : (c : Split) → start (seen c) .args .row + 1 < 8193
   next-small c = let h = inner c in row-small (left-stands (start (seen c) .pre .1 .0) (h .0) (h .1))
 
+  tally-in-requires : walk-lts.Need-tally-in-requires (claims t) (walk-at t) walk.Post
+  tally-in-requires c κs = search needs
+
   bad-row-due-requires : walk-lts.Need-bad-row-due-requires (claims t) (walk-at t) walk.Post
-  bad-row-due-requires c κs = next-small (split (c .before))
+  bad-row-due-requires c κs = next-small (split (c .before .before))
 
   -- the right half, as it is left to do, with a count and a tally; after what the left half comes to, that makes the walk
   abbrev onRight : Split → ℕ → Bool → Tally → Walked Bool
-  onRight c f odd v = let s = start (seen c) in writtenWalk (does s) (pred f) (rightOf (node s) (mid c)) odd v
+  onRight c f b v = let s = start (seen c) in writtenWalk (does s) (pred f) (rightOf (node s) (mid c)) b v
+
+  -- the tally with which the left half is walked
+  abbrev leftTally : Split → Tally
+  leftTally c = tallyOf (start (seen c)) (number (counted (seen c)))
 
   after-left : (c : Split) (f : ℕ) (left : ℕ) → start (seen c) .args .last ≤ f + start (seen c) .args .first
-      → read (start (seen c)) left ≡ writtenWalk (does (start (seen c))) (pred f) (leftOf (node (start (seen c))) (mid c)) (start (seen c) .args .odd) (counted (seen c))
+      → read (start (seen c)) left ≡ writtenWalk (does (start (seen c))) (pred f) (leftOf (node (start (seen c))) (mid c)) (odd (start (seen c))) (leftTally c)
       → goOn (read (start (seen c)) left) (onRight c f) ≡ walks (start (seen c)) f
   after-left c f left h p =
       let s = start (seen c) in
-      halved (does s) (node s) (s .args .odd) (tally s) f (some-level s f h) (made (seen c)) (did (seen c) (c .before .mid .given .1)) p
+      halved (does s) (node s) (odd s) (tally s) f (some-level s f h) (made (counted (seen c))) (did (seen c) (c .before .mid .given .1)) p
 
   returns-2 : walk-lts.Need-returns-2 (claims t) (walk-at t) walk.Post
   returns-2 c f h =
-      let k = c .before .before in
+      let k = c .before .before .before in
       let o = split k in
       let s = start (seen o) in
       let i = inner o in
       let l = leftOf (node s) (mid o) in
-      let v = counted (seen o) in
+      let v = leftTally o in
       let small = next-small o in
-      let e = c .bad-row-due .ensures in
-      let off = end-off (s .args .points .now .now) _ (s .args .first) (mid o) (sym (looked k) ∙ not-true _ (c .before .if1 .taken)) in
+      let e = c .bad-row-due .ensures ∙ ap (λ (y : Tally). due (next y) (badRow + l .row)) (c .before .tally-in .ensures) in
+      let off = end-off (s .args .points .now .now) _ (s .args .first) (mid o) (sym (looked k) ∙ not-true _ (c .before .before .if2 .taken)) in
       let bad = visit-bad (s .args .points .now .now) (s .args .table .now .now) (z s) l _ refl off in
       sym (stops false true LineA LineA _ (c .bad-row-due .result) _ (ap (λ r. leb ENDED (endIn r)) e ∙ due-stops (next v) (badRow + l .row) (omega arith) (omega arith)))
-      ∙ after-left o f (c .bad-row-due .result) h
-      ((λ d. cameTo false true LineA LineA (sym (kept (seen o)) d) (e d)) ∙ reads-bad-due false true LineA LineA (does s) l (s .args .odd) v (pred f) (omega arith) (l .row) small bad)
+      ∙ after-left o f (c .bad-row-due .result) h (ap (read s) e ∙ reads-bad-due false true LineA LineA (does s) l (odd s) v (pred f) (omega arith) (l .row) small bad)
 
   -- else both halves begin and end on the sheet
   split-on : (c : Looked) → c .on-sheet .result ≡ true → T (onSheet (point (start (seen (split c)) .args .points .now .now) (mid (split c))))
@@ -281,8 +312,8 @@ module _ (t : ℕ) where
       let o = split (c .before) in
       let s = start (seen o) in
       let h = inner o in
-      let on = split-on (c .before) (not-false _ (c .if1 .left)) in
-      (omega (arith, s .pre .0), (left-stands (s .pre .1 .0) (h .0) (h .1), left-ends (s .pre .1 .1) on, stored-on (s .pre .1 .2)))
+      let on = split-on (c .before) (not-false _ (c .if2 .left)) in
+      (omega (arith, s .pre .0), (left-stands (s .pre .1 .0) (h .0) (h .1), left-ends (s .pre .1 .1) on, stored-on (s .pre .1 .2), still-over (counted (seen (split (c .before))))))
 
   stopped-requires : walk-lts.Need-stopped-requires (claims t) (walk-at t) walk.Post
   stopped-requires c κs = search needs
@@ -294,12 +325,12 @@ module _ (t : ℕ) where
       let s = start (seen o) in
       let i = inner o in
       after-left o f (c .walk .result) h
-      (c .walk .ensures (pred f) (omega arith) ∙ (λ d. writtenWalk (doesAt s (same s d)) (pred f) (leftOf (node s) (mid o)) (s .args .odd) (record { allowance = sym (kept (seen o)) d; visits = counted (seen o) .visits })))
+      (c .walk .ensures (pred f) (omega arith) ∙ (λ d. writtenWalk (doesAt s (same s d)) (pred f) (leftOf (node s) (mid o)) (odd-kept (counted (seen o)) d) (leftTally o)))
 
   returns-3 : walk-lts.Need-returns-3 (claims t) (walk-at t) walk.Post
   returns-3 c f h =
       let k = c .before in
-      sym (stops false true LineA LineA _ (k .before .walk .result) _ (sym (k .stopped .ensures) ∙ c .if2 .taken)) ∙ left-walked (k .before) f h
+      sym (stops false true LineA LineA _ (k .before .walk .result) _ (sym (k .stopped .ensures) ∙ c .if3 .taken)) ∙ left-walked (k .before) f h
 
   sub-right : walk-lts.Need-sub-right (claims t) (walk-at t) walk.Post
   sub-right c = let h = inner (split (looking (c .before .before))) in omega arith
@@ -318,86 +349,81 @@ module _ (t : ℕ) where
       let low = row-small p in
       let small = split-small p (h .0) (h .1) in omega arith
 
-  end-in-requires : walk-lts.Need-end-in-requires (claims t) (walk-at t) walk.Post
-  end-in-requires c κs = search needs
-
-  visits-in-requires : walk-lts.Need-visits-in-requires (claims t) (walk-at t) walk.Post
-  visits-in-requires c κs = search needs
+  -- the left half did not stop the walk
+  left-over : (c : walk-lts.Else3 (claims t) (walk-at t) walk.Post) → endIn (c .before .before .walk .result) < ENDED
+  left-over c = leb-false ENDED _ (sym (c .before .stopped .ensures) ∙ c .if3 .left)
 
   walk-requires-2 : walk-lts.Need-walk-requires-2 (claims t) (walk-at t) walk.Post
   walk-requires-2 c κs =
-      let w = c .before .before .before .before in
+      let w = c .before .before in
       let o = split (looking w) in
       let s = start (seen o) in
       let h = inner o in
-      let on = split-on (looking w) (not-false _ (w .before .if1 .left)) in
-      (omega (arith, s .pre .0), (right-stands (s .pre .1 .0) (h .0) (h .1), right-ends (s .pre .1 .1) on, stored-on (s .pre .1 .2)))
+      let on = split-on (looking w) (not-false _ (w .before .if2 .left)) in
+      (omega (arith, s .pre .0), (right-stands (s .pre .1 .0) (h .0) (h .1), right-ends (s .pre .1 .1) on, stored-on (s .pre .1 .2), left-over c))
 
   returns-4 : walk-lts.Need-returns-4 (claims t) (walk-at t) walk.Post
   returns-4 c f h =
-      let w = c .before .before .before in
+      let w = c .before .before .before .before in
       let s = start w in
-      let e : w .visit2 .result ≡ Bad = cc in
-      ap (read s) (c .bad-row .ensures)
+      let e : w .visit .result ≡ Bad = cc in
+      ap (read s) (c .bad-row .ensures ∙ ap (λ (v : ℕ). came v (badRow + s .args .row)) (c .before .visits-in .ensures))
       ∙ reads-bad false true LineA LineA _ _ (s .args .row) (row-small (s .pre .1 .0))
-      ∙ visited (does s) (node s) (s .args .odd) (tally s) f (some-level s f h) (made w) (did w e)
+      ∙ visited (does s) (node s) (odd s) (tally s) f (some-level s f h) (made (counted w)) (did w e)
 
   returns-5 : walk-lts.Need-returns-5 (claims t) (walk-at t) walk.Post
   returns-5 c f h =
-      let w = c .before .before .before in
+      let w = c .before .before .before .before in
       let s = start w in
-      let e : w .visit2 .result ≡ Finish = cc in
-      ap (read s) (c .came2 .ensures)
+      let e : w .visit .result ≡ Finish = cc in
+      ap (read s) (c .came2 .ensures ∙ ap (λ (v : ℕ). came v ENDED) (c .before .visits-in2 .ensures))
       ∙ reads-ended false true LineA LineA _ _
-      ∙ ap (λ k. ended (record { allowance = k; visits = counted w .visits })) (sym (kept w))
-      ∙ visited (does s) (node s) (s .args .odd) (tally s) f (some-level s f h) (made w) (did w e)
+      ∙ visited (does s) (node s) (odd s) (tally s) f (some-level s f h) (made (counted w)) (did w e)
 
   returns-6 : walk-lts.Need-returns-6 (claims t) (walk-at t) walk.Post
   returns-6 c f h =
-      let w = c .before .before .before .before .before in
+      let k = c .before .before in
+      let w = k .before .before in
       let s = start w in
-      c .over .ensures _
-      ∙ (λ d. over (c .before .add .ensures d) (record { allowance = sym (kept w) d; visits = counted w .visits }))
-      ∙ visited (does s) (node s) (s .args .odd) (tally s) f (some-level s f h) (made w) (did w (c .before .before .before .crossed .given .1))
+      c .add .ensures _
+      ∙ ap (λ (b : Bool). over (count (k .crossed .given .0 .0) b) (tallyOf s (number (counted w)))) (odd-kept (counted w))
+      ∙ visited (does s) (node s) (odd s) (tally s) f (some-level s f h) (made (counted w)) (did w (k .crossed .given .1))
 
   returns-7 : walk-lts.Need-returns-7 (claims t) (walk-at t) walk.Post
   returns-7 c f h =
-      let n = c .before in
-      let e = n .before in
-      let k = e .before .before in
-      let w = k .before in
+      let e = c .before in
+      let w = e .before .before in
       let o = split (looking w) in
       let s = start (seen o) in
       let i = inner o in
       let left = w .walk .result in
-      let goes-on : leb ENDED (endIn left) ≡ false = sym (k .stopped .ensures) ∙ e .before .if2 .left in
       c .walk2 .ensures (pred f) (omega arith)
-      ∙ (λ d. writtenWalk (doesAt s (same s d)) (pred f) (rightOf (node s) (mid o)) (eqb (e .end-in .ensures d) 1) (record { allowance = s .args .allowance; visits = n .visits-in .ensures d }))
-      ∙ (λ d. onRight o f (odd-or-even (endIn left) (leb-false ENDED (endIn left) goes-on) d) (tallyIn (s .args .allowance) left))
-      ∙ sym (goes false true LineA LineA _ left (onRight o f) goes-on)
+      ∙ (λ d. writtenWalk (doesAt s (same s d)) (pred f) (rightOf (node s) (mid o)) (oddIn left) (tallyOf s left))
+      ∙ sym (goes-on LineA LineA _ left (onRight o f) (left-over e))
       ∙ left-walked w f h
 
 pub +walk-spec : {M : Type 1} → statement M
 +walk-spec =
     close μ-walk λ t.
     walk-lts.spec (claims t) (walk-at t) walk.Post
-    (visit-requires t)
-    (enum-known-counted t)
-    (enum-told t)
+    (spent-requires t)
     (came-requires t)
     (returns t)
-    (visit-requires-2 t)
-    (enum-told-2 t)
+    (visited-requires t)
+    (visit-requires t)
+    (enum-told t)
+    (visits-in-requires t)
     (bad-row-requires t)
-    (enum-told-3 t)
+    (enum-told-2 t)
+    (visits-in-requires-2 t)
     (came-requires-2 t)
     (enum-known-crossed t)
     (add-requires t)
-    (over-requires t)
     (enum-known-mid t)
     (add-next t)
     (point-at-requires t)
     (on-sheet-requires t)
+    (tally-in-requires t)
     (bad-row-due-requires t)
     (returns-2 t)
     (walk-requires t)
@@ -406,8 +432,6 @@ pub +walk-spec : {M : Type 1} → statement M
     (sub-right t)
     (mul-right t)
     (add-right t)
-    (end-in-requires t)
-    (visits-in-requires t)
     (walk-requires-2 t)
     (returns-4 t)
     (returns-5 t)

@@ -29,26 +29,28 @@ module _ (c : tie.After-visits-in) where
   end-read : {e : ℕ} → c .before .end-in .result ≡ e → endIn (c .before .before .args .came) ≡ e
   end-read e = sym (c .before .end-in .ensures) ∙ e
 
+-- a walk that is over has an odd count or an even one
 returns : tie.Need-returns
 returns c =
-    let v = c .before in
-    ap (says OUTSIDE) (v .visits-in .ensures) ∙ said v (is-even false true LineA LineA _ _ (end-read v (c .if1 .taken)))
-
-returns-2 : tie.Need-returns-2
-returns-2 c =
     let v = c .before .before in
     ap (says INSIDE) (v .visits-in .ensures) ∙ said v (is-odd false true LineA LineA _ _ (end-read v (c .if2 .taken)))
 
+even : (c : tie.Else2) → endIn (c .before .before .before .before .args .came) ≡ 0
+even c = search needs
+
+returns-2 : tie.Need-returns-2
+returns-2 c = let v = c .before .before in ap (says OUTSIDE) (v .visits-in .ensures) ∙ said v (is-even false true LineA LineA _ _ (even c))
+
 returns-3 : tie.Need-returns-3
 returns-3 c =
-    let v = c .before .before .before in
+    let v = c .before .before in
     ap (says ON) (v .visits-in .ensures) ∙ said v (is-ended false true LineA LineA _ _ (end-read v (c .if3 .taken)))
 
 returns-4 : tie.Need-returns-4
-returns-4 c = let v = c .before .before .before .before in said v (is-spent false true LineA LineA _ _ (end-read v (c .if4 .taken)))
+returns-4 c = let v = c .before .before .before in said v (is-spent false true LineA LineA _ _ (end-read v (c .if4 .taken)))
 
--- what is none of the four is a bad row
-bad : (c : tie.Else4) → badRow ≤ endIn (c .before .before .before .before .before .before .args .came)
+-- what is none of these is a bad row
+bad : (c : tie.Else4) → badRow ≤ endIn (c .before .before .before .before .before .args .came)
 bad c = search needs
 
 refusal-requires : tie.Need-refusal-requires
@@ -56,7 +58,7 @@ refusal-requires c κs = bad c
 
 returns-5 : tie.Need-returns-5
 returns-5 c =
-    let v = c .before .before .before .before .before in
+    let v = c .before .before .before .before in
     ap refuses (c .refusal .ensures) ∙ said v (is-bad false true LineA LineA _ _ (bad (c .before)))
 
 pub side-of-ring-spec : {M : Type 1} → statement M

@@ -1,78 +1,64 @@
--- `visit_inner` asks the rule of a split, then whether z is clear of the node.
+-- `visit_inner` reads the row, asks its frame, and goes by the cases of a node of more segments.
 use mathlib.Core.Path.{_≡_, sym, _∙_}
-use mathlib.Core.Bool.{Bool, true, cond, _&&_}
+use mathlib.Core.Bool.{true}
+use native.Mathlib.Omega.{arith}
 use borrow.Author.Tests.{not-true, not-false}
-use lib.IntN.{pos}
-use lib.Signed.{ltZ, _<ℤ_, ltZ-yes}
-use mir.Facts.{and-yes}
-use Rattle.whole.specs.Laws.{zarith}
-use Rattle.whole.specs.Order.{T-true}
-use Rattle.rules.specs.Plane.{direction}
-use Rattle.rules.specs.Plain.{crosses}
-use Rattle.rules.specs.Questions.{splitIn, clearOf}
-use Rattle.inside.specs.declared.Step.{Step}
-use Rattle.inside.specs.declared.Step.the-variants.{Bad, Pass, Halve}
 use borrow.Author.Needs.{needs}
+use Rattle.inside.proofs.Visits.{RowRead, frame, frame-bad, points-on, inner-visit}
 use Rattle.inside.proofs.visit_inner.Statement.{statement}
 use Rattle.inside.proofs.visit_inner.Tie as tie
 
-module _ (s : tie.Start) where
-  abbrev low : Bool
-  low = ltZ (pos (s .args .first)) (s .args .r .split)
+row-at-requires : tie.Need-row-at-requires
+row-at-requires c κs = search needs
 
-  abbrev high : Bool
-  high = ltZ (s .args .r .split) (pos (s .args .last))
+-- the row that was read
+abbrev read : (c : tie.After-row-at) → RowRead (c .before .args .points .now) (c .before .args .table .now) (c .before .args .node)
+read c = record {
+  row = c .row-at .result;
+  row-is = c .row-at .ensures;
+  stands = c .before .pre .0 .0;
+  ends-on = c .before .pre .0 .1;
+}
 
-  -- what is said, by the rule of a split, and by whether z is clear of the node
-  abbrev said : Bool → Bool → Step
-  said ruled clear = cond ruled (cond clear (Pass (crosses (s .args .z) (s .args .a) (s .args .b))) (Halve (splitIn (s .args .r)))) Bad
-
-  abbrev clear : Bool
-  clear = clearOf (s .args .r) (s .args .a) (direction (s .args .a) (s .args .b)) (s .args .z)
-
-splits-inside-requires : tie.Need-splits-inside-requires
-splits-inside-requires c κs = search needs
+frame-good-requires : tie.Need-frame-good-requires
+frame-good-requires c κs = search needs
 
 returns : tie.Need-returns
 returns c =
-    let s = c .before .before in
-    let e = sym (c .before .splits-inside .ensures) ∙ not-true _ (c .if1 .taken) in sym (λ d. said s (e d) (clear s))
+    let r = c .before .before in
+    frame-bad _ _ (r .before .args .z) _ (read r) (sym (c .before .frame-good .ensures) ∙ not-true _ (c .if1 .taken))
 
-passed : (c : tie.Else1) → low (c .before .before) && high (c .before .before) ≡ true
-passed c = sym (c .before .splits-inside .ensures) ∙ not-false _ (c .if1 .left)
+framed : (c : tie.Else1) → frame _ _ (c .before .before .before .args .z) _ (read (c .before .before)) ≡ true
+framed c = sym (c .before .frame-good .ensures) ∙ not-false _ (c .if1 .left)
 
-clear-of-requires : tie.Need-clear-of-requires
-clear-of-requires c κs = search needs
+point-at-requires : tie.Need-point-at-requires
+point-at-requires c κs = search needs
 
-crosses-requires : tie.Need-crosses-requires
-crosses-requires c κs = search needs
+point-at-requires-2 : tie.Need-point-at-requires-2
+point-at-requires-2 c κs = search needs
+
+inner-step-requires : tie.Need-inner-step-requires
+inner-step-requires c κs =
+    let r = c .before .before .before .before in
+    let h = r .before .pre .0 .0 in
+    let on = points-on _ _ (r .before .args .z) _ (read r) (c .before .point-at .ensures) (c .point-at2 .ensures) in
+    ((h .some-segment, omega (arith, h .points-in, h .fine .not-more)), (on .0, on .1, r .before .pre .0 .2))
 
 returns-2 : tie.Need-returns-2
 returns-2 c =
-    let k = c .before .before in
-    let s = k .before .before .before in
-    (λ d. Pass (c .crosses .ensures d)) ∙ sym (λ d. said s (passed (k .before) d) ((sym (k .clear-of .ensures) ∙ c .before .if2 .taken) d))
-
-split-of-requires : tie.Need-split-of-requires
-split-of-requires c κs =
-    let k = c .before .before in
-    let s = k .before .before in
-    let h : pos (s .args .first) <ℤ s .args .r .split = ltZ-yes (and-yes (low s) (high s) (T-true (passed k)) .0) in omega zarith
-
-returns-3 : tie.Need-returns-3
-returns-3 c =
-    let k = c .before .before in
-    let s = k .before .before .before in
-    (λ d. Halve (c .split-of .ensures d)) ∙ sym (λ d. said s (passed (k .before) d) ((sym (k .clear-of .ensures) ∙ c .before .if2 .left) d))
+    let p = c .before in
+    let f = p .before .before in
+    let r = f .before .before in
+    inner-visit _ _ (r .before .args .z) _ (read r) (p .before .point-at .ensures) (p .point-at2 .ensures) (framed f) (r .before .pre .1) (c .inner-step .ensures)
 
 pub visit-inner-spec : {M : Type 1} → statement M
 visit-inner-spec =
     tie.close
     (tie.spec
-    splits-inside-requires
+    row-at-requires
+    frame-good-requires
     returns
-    clear-of-requires
-    crosses-requires
-    returns-2
-    split-of-requires
-    returns-3)
+    point-at-requires
+    point-at-requires-2
+    inner-step-requires
+    returns-2)

@@ -1,96 +1,61 @@
--- `visit_leaf` asks the rules of a leaf, then whether z is clear of it, then the leaf itself.
-use mathlib.Core.Path.{_≡_, sym, _∙_, subst}
-use mathlib.Core.Bool.{Bool, true, false, not, cond, _&&_}
+-- `visit_leaf` reads the row, asks its frame, and goes by the cases of a leaf.
+use mathlib.Core.Path.{_≡_, sym, _∙_}
+use mathlib.Core.Bool.{true}
 use borrow.Author.Tests.{not-true, not-false}
-use Rattle.whole.specs.Order.{T-true, no-T}
-use lib.Dec.{T-not}
-use mir.Facts.{and-yes}
-use Rattle.rules.specs.Plane.{eqZ, samePoint, direction}
-use Rattle.rules.specs.Tree.{noSplit}
-use Rattle.rules.specs.Plain.{onSegment, crosses}
-use Rattle.rules.specs.Questions.{clearOf}
-use Rattle.visits.specs.Small.{Small}
-use Rattle.visits.proofs.Sizes.{step-small}
-use Rattle.inside.specs.declared.Step.{Step}
-use Rattle.inside.specs.declared.Step.the-variants.{Bad, Finish, Pass}
 use borrow.Author.Needs.{needs}
-use Rattle.line.proofs.Headings.{heads-along}
+use Rattle.inside.proofs.Visits.{RowRead, frame, frame-bad, points-on, leaf-visit}
 use Rattle.inside.proofs.visit_leaf.Statement.{statement}
 use Rattle.inside.proofs.visit_leaf.Tie as tie
 
--- what is left to ask once the rules of a leaf passed, and once z is not clear of it
-module _ (s : tie.Start) where
-  abbrev crossed : Step
-  crossed = Pass (crosses (s .args .z) (s .args .a) (s .args .b))
+row-at-requires : tie.Need-row-at-requires
+row-at-requires c κs = search needs
 
-  abbrev tested : Step
-  tested = cond (onSegment (s .args .z) (s .args .a) (s .args .b)) Finish crossed
+-- the row that was read
+abbrev read : (c : tie.After-row-at) → RowRead (c .before .args .points .now) (c .before .args .table .now) (c .before .args .node)
+read c = record {
+  row = c .row-at .result;
+  row-is = c .row-at .ensures;
+  stands = c .before .pre .0 .0;
+  ends-on = c .before .pre .0 .1;
+}
 
-  abbrev ruled : Bool
-  ruled = eqZ (s .args .r .split) noSplit && not (samePoint (s .args .a) (s .args .b))
-
-  abbrev clear : Bool
-  clear = clearOf (s .args .r) (s .args .a) (direction (s .args .a) (s .args .b)) (s .args .z)
-
-leaf-good-requires : tie.Need-leaf-good-requires
-leaf-good-requires c κs = search needs
+frame-good-requires : tie.Need-frame-good-requires
+frame-good-requires c κs = search needs
 
 returns : tie.Need-returns
 returns c =
-    let s = c .before .before in
-    let e = sym (c .before .leaf-good .ensures) ∙ not-true _ (c .if1 .taken) in sym (λ d. cond (e d) (cond (clear s) (crossed s) (tested s)) Bad)
+    let r = c .before .before in
+    frame-bad _ _ (r .before .args .z) _ (read r) (sym (c .before .frame-good .ensures) ∙ not-true _ (c .if1 .taken))
 
--- the rules of a leaf hold, so its points differ
-passed : (c : tie.Else1) → ruled (c .before .before) ≡ true
-passed c = sym (c .before .leaf-good .ensures) ∙ not-false _ (c .if1 .left)
+framed : (c : tie.Else1) → frame _ _ (c .before .before .before .args .z) _ (read (c .before .before)) ≡ true
+framed c = sym (c .before .frame-good .ensures) ∙ not-false _ (c .if1 .left)
 
-differ : (c : tie.Else1) → samePoint (c .before .before .args .a) (c .before .before .args .b) ≡ false
-differ c =
-    let s = c .before .before .args in
-    no-T _ (T-not (samePoint (s .a) (s .b)) (and-yes (eqZ (s .r .split) noSplit) (not (samePoint (s .a) (s .b))) (T-true (passed c)) .1))
+point-at-requires : tie.Need-point-at-requires
+point-at-requires c κs = search needs
 
-step-requires : tie.Need-step-requires
-step-requires c κs = search needs
+point-at-requires-2 : tie.Need-point-at-requires-2
+point-at-requires-2 c κs = search needs
 
-clear-along-requires : tie.Need-clear-along-requires
-clear-along-requires c κs =
-    let s = c .before .before .before .pre in (s .0, subst Small (sym (c .step .ensures)) (step-small (s .0) (s .1)), s .2)
-
-clear-told : (c : tie.After-clear-along) → c .clear-along .result ≡ clear (c .before .before .before .before)
-clear-told c =
-    let k = c .before .before in
-    let s = k .before .before .args in
-    c .clear-along .ensures ∙ (λ d. clearOf (s .r) (s .a) ((c .before .step .ensures ∙ sym (heads-along (s .a) (s .b) (differ k))) d) (s .z))
-
--- what is said, by whether z is clear of it
-said : (c : tie.After-clear-along) {b : Bool} → c .clear-along .result ≡ b
-    → cond b (crossed (c .before .before .before .before)) (tested (c .before .before .before .before))
-    ≡ cond (ruled (c .before .before .before .before)) (cond (clear (c .before .before .before .before)) (crossed (c .before .before .before .before)) (tested (c .before .before .before .before))) Bad
-said c e =
-    let s = c .before .before .before .before in
-    sym (λ d. cond (passed (c .before .before) d) (cond ((sym (clear-told c) ∙ e) d) (crossed s) (tested s)) Bad)
-
-crosses-requires : tie.Need-crosses-requires
-crosses-requires c κs = search needs
+leaf-step-requires : tie.Need-leaf-step-requires
+leaf-step-requires c κs =
+    let r = c .before .before .before .before in
+    let on = points-on _ _ (r .before .args .z) _ (read r) (c .before .point-at .ensures) (c .point-at2 .ensures) in (on .0, on .1, r .before .pre .0 .2)
 
 returns-2 : tie.Need-returns-2
-returns-2 c = (λ d. Pass (c .crosses .ensures d)) ∙ said (c .before .before) (c .before .if2 .taken)
-
-test-leaf-requires : tie.Need-test-leaf-requires
-test-leaf-requires c κs = search needs
-
-returns-3 : tie.Need-returns-3
-returns-3 c = c .test-leaf .ensures ∙ said (c .before .before) (c .before .if2 .left)
+returns-2 c =
+    let p = c .before in
+    let f = p .before .before in
+    let r = f .before .before in
+    leaf-visit _ _ (r .before .args .z) _ (read r) (p .before .point-at .ensures) (p .point-at2 .ensures) (framed f) (r .before .pre .1) (c .leaf-step .ensures)
 
 pub visit-leaf-spec : {M : Type 1} → statement M
 visit-leaf-spec =
     tie.close
     (tie.spec
-    leaf-good-requires
+    row-at-requires
+    frame-good-requires
     returns
-    step-requires
-    clear-along-requires
-    crosses-requires
-    returns-2
-    test-leaf-requires
-    returns-3)
+    point-at-requires
+    point-at-requires-2
+    leaf-step-requires
+    returns-2)

@@ -1,0 +1,63 @@
+-- `ask` walks from the root, unless the line begins or ends off the sheet: then its root is refused.
+use mathlib.Core.Path.{refl, sym, _∙_, ap}
+use mathlib.Core.Bool.{true, false}
+use Prim.Native.Nat.{_<_}
+use native.Mathlib.Omega.{arith}
+use borrow.Author.Tests.{not-true, not-false}
+use Rattle.whole.specs.Order.{T-true}
+use Rattle.rules.specs.declared.Line.the-variants.{LineA}
+use Rattle.rules.specs.Sheet.{segmentsOf}
+use Rattle.rules.specs.Walk.{walk, fresh}
+use Rattle.rules.specs.Questions.{root, inVisit}
+use Rattle.row.specs.Came.{cameTo}
+use Rattle.row.proofs.Places.{root-stands, root-ends}
+use Rattle.row.proofs.Dues.{reads-bad-due}
+use Rattle.row.proofs.Parts.{ends-off}
+use Rattle.line.proofs.Stored.{point-stored, stored-on}
+use Rattle.inside.proofs.Visits.{visit-bad}
+use borrow.Author.Needs.{needs}
+use Rattle.inside.proofs.ask.Statement.{statement}
+use Rattle.inside.proofs.ask.Tie as tie
+
+some-segment : (s : tie.Start) → 0 < segmentsOf (s .args .points .now .now)
+some-segment s = omega (arith, s .pre .0 .some-points)
+
+ends-on-sheet-requires : tie.Need-ends-on-sheet-requires
+ends-on-sheet-requires c κs = search needs
+
+bad-row-due-requires : tie.Need-bad-row-due-requires
+bad-row-due-requires c κs = search needs
+
+returns : tie.Need-returns
+returns c =
+    let k = c .before .before in
+    let s = k .before .before in
+    let a = s .args in
+    let ps = a .points .now .now in
+    let off = ends-off ps _ 0 (segmentsOf ps) (sym (k .ends-on-sheet .ensures) ∙ not-true _ (c .before .if1 .taken)) in
+    let bad = visit-bad ps (a .table .now .now) (a .z) (root ps) _ refl off in
+    ap (cameTo false true LineA LineA (a .allowance)) (c .bad-row-due .ensures)
+    ∙ reads-bad-due false true LineA LineA (inVisit ps (a .table .now .now) (a .z)) (root ps) false (fresh (a .allowance)) (segmentsOf ps) (some-segment s) 0 (omega arith) bad
+
+sub-last : tie.Need-sub-last
+sub-last c = search needs
+
+walk-requires : tie.Need-walk-requires
+walk-requires c κs =
+    let e = c .before .before in
+    let p = e .before .before .before .pre in
+    (root-stands (p .0), root-ends (T-true (sym (e .before .ends-on-sheet .ensures) ∙ not-false _ (e .if1 .left))), stored-on (p .1), omega arith)
+
+-- the point's numbers are handed on as they are
+returns-2 : tie.Need-returns-2
+returns-2 c =
+    let s = c .before .before .before .before .before .before in
+    let a = s .args in
+    let f = segmentsOf (a .points .now .now) in
+    c .walk .ensures f (omega arith)
+    ∙ (λ d. walk (inVisit (a .points .now .now) (a .table .now .now) (point-stored (s .pre .1) d)) f (root (a .points .now .now)) false (fresh (a .allowance)))
+
+pub ask-spec : {M : Type 1} → statement M
+ask-spec =
+    tie.close
+    (tie.spec ends-on-sheet-requires bad-row-due-requires returns sub-last walk-requires returns-2)

@@ -1,0 +1,10 @@
+-- `flipped` changes the last digit.
+use Rattle.row.proofs.SoFar.{flips}
+use Rattle.row.proofs.flipped.Statement.{statement}
+use Rattle.row.proofs.flipped.Tie as tie
+
+returns : tie.Need-returns
+returns c = flips (c .args .made) (c .pre)
+
+pub flipped-spec : {M : Type 1} → statement M
+flipped-spec = tie.close (tie.spec returns)
