@@ -13,6 +13,7 @@ use line::t_at;
 use row::row_at;
 use row::split_of;
 use rules::Line;
+use rules::Next;
 use rules::Node;
 use rules::Point;
 use rules::Row;
@@ -261,18 +262,18 @@ fn walk(
     requires { ⌜ Stands (now (now points)) (now (now table)) (record { row = row; first = first; last = last }) × EndsOn (now (now points)) (record { row = row; first = first; last = last }) × OnSheet (record { x = x; y = y }) × (endIn «so_far» < ENDED) ⌝ }
     ensures { λ r. ⌜ ((f : ℕ) → last ≤ f + first → cameTo false true Line.LineA Line.LineA allowance r ≡ walk (inVisit (now (now (points .entry))) (now (now (table .entry))) (record { x = x; y = y })) f (record { row = row; first = first; last = last }) (oddIn «so_far») (tallyIn allowance «so_far»)) ⌝ }
 {
-    if row::spent(so_far, allowance) {
+    let Next::Left(counted) = row::tally_in(allowance, so_far).visit() else {
         return row::came(0, row::SPENT);
-    }
+    };
     let made = row::visited(so_far);
     match visit(*points, *table, Node { row, first, last }, Point { x, y }) {
-        Step::Bad => row::bad_row(row::visits_in(made), row),
-        Step::Finish => row::came(row::visits_in(made), row::ENDED),
+        Step::Bad => row::bad_row(counted.visits, row),
+        Step::Finish => row::came(counted.visits, row::ENDED),
         Step::Pass(crossed) => add(made, crossed),
         Step::Halve(mid) => {
             let next = row + 1;
             if !on_sheet(point_at(*points, mid)) {
-                return row::bad_row_due(row::tally_in(allowance, made), next);
+                return row::bad_row_due(counted, next);
             }
             let left = walk(points, table, next, first, mid, made, x, y, allowance);
             if row::stopped(left) {

@@ -3,7 +3,7 @@ use mathlib.Core.Path.{_≡_, refl, sym, _∙_, ap}
 use mathlib.Core.Bool.{Bool, true, false, cond}
 use Prim.Native.Nat.{ℕ, _+_, _-_, _<_, _≤_}
 use native.Mathlib.Omega.{arith}
-use borrow.Author.Tests.{lt-ltb, le-ltb, eq-eqb, ne-eqb, eqb-false, leb-false, leb-true}
+use borrow.Author.Tests.{ltb-true, lt-ltb, le-ltb, eq-eqb, ne-eqb, eqb-false, leb-false, leb-true}
 use lib.Dec.{leb, ltb, eqb}
 use Rattle.rules.specs.declared.Line.{Line}
 use Rattle.rules.specs.declared.Tally.{Tally}
@@ -18,17 +18,35 @@ visits-in v e small = omega arith
 pub end-in : (v e : ℕ) → e < half → endIn (came v e) ≡ e
 end-in v e small = omega arith
 
--- ---------------- a visit that is counted keeps the allowance
-pub keeps : (y v : Tally) → next y ≡ Left v → v .allowance ≡ y .allowance
-keeps y v = by (ltb (y .visits) (y .allowance))
+-- ---------------- a visit that is counted gives the next tally, which keeps the allowance
+pub next-counts : (y v : Tally) → next y ≡ Left v → v ≡ record { allowance = y .allowance; visits = y .visits + 1 }
+next-counts y v = by (ltb (y .visits) (y .allowance))
   where
-    of : Next → ℕ
-    of (Left x) = x .allowance
-    of Spent = y .allowance
+    counted : Tally
+    counted = record { allowance = y .allowance; visits = y .visits + 1 }
 
-    by : (b : Bool) → cond b (Left (record { allowance = y .allowance; visits = y .visits + 1 })) Spent ≡ Left v → v .allowance ≡ y .allowance
+    of : Next → Tally
+    of (Left x) = x
+    of Spent = counted
+
+    by : (b : Bool) → cond b (Left counted) Spent ≡ Left v → v ≡ counted
     by true e = sym (ap of e)
     by false e = sym (ap of e)
+
+-- and there was one left to make
+pub next-left : (y v : Tally) → next y ≡ Left v → y .visits < y .allowance
+next-left y v e = ltb-true (y .visits) (y .allowance) (by (ltb (y .visits) (y .allowance)) e)
+  where
+    some : Next → Bool
+    some (Left x) = true
+    some Spent = false
+
+    by : (b : Bool) → cond b (Left (record { allowance = y .allowance; visits = y .visits + 1 })) Spent ≡ Left v → b ≡ true
+    by true e = refl
+    by false e = ap some e
+
+pub keeps : (y v : Tally) → next y ≡ Left v → v .allowance ≡ y .allowance
+keeps y v e = ap (λ (x : Tally). x .allowance) (next-counts y v e)
 
 module _ {S : Type 0} (even odd : S) (l m : Line) (allowance : ℕ) where
   abbrev tally : ℕ → Tally

@@ -1,25 +1,16 @@
--- A walk so far, as a number: whether a visit is left to it, one visit more, the other count, and what it is read as.
+-- A walk so far, as a number: one visit more, the other count, and what it is read as.
 use mathlib.Core.Path.{_≡_, refl, sym, _∙_, ap}
-use mathlib.Core.Bool.{Bool, true, false, not, cond}
+use mathlib.Core.Bool.{true, false, not}
 use Prim.Native.Nat.{ℕ, zero, suc, _+_, _-_, _*_, _/_, _%_, _<_}
 use native.Mathlib.Omega.{arith}
-use borrow.Author.Tests.{leb-true, leb-false, le-leb, lt-leb, lt-ltb, le-ltb}
 use lib.Bits.{bitXor, differ, xor-step, xor-zero-r}
-use lib.Dec.{leb, eqb}
+use lib.Dec.{eqb}
 use Rattle.rules.specs.declared.Line.{Line}
 use Rattle.rules.specs.declared.Tally.{Tally}
-use Rattle.rules.specs.declared.Next.the-variants.{Left, Spent}
-use Rattle.rules.specs.Walk.{next, Walked, over, goOn}
-use Rattle.row.specs.Came.{came, visitsIn, endIn, EVEN, ENDED, oddIn, tallyIn, cameTo}
-use Rattle.row.proofs.Ends.{visits-in, is-even, is-odd, reads-even, reads-odd}
-
--- no visit is left where the number is at least that of the allowance
-pub spent-reads : (allowance r : ℕ) → leb (came allowance EVEN) r ≡ leb allowance (visitsIn r)
-spent-reads allowance r = by (leb allowance (visitsIn r)) refl
-  where
-    by : (b : Bool) → leb allowance (visitsIn r) ≡ b → leb (came allowance EVEN) r ≡ b
-    by true e = let h = leb-true allowance (visitsIn r) e in le-leb (came allowance EVEN) r (omega arith)
-    by false e = let h = leb-false allowance (visitsIn r) e in lt-leb (came allowance EVEN) r (omega arith)
+use Rattle.rules.specs.declared.Next.the-variants.{Left}
+use Rattle.rules.specs.Walk.{next, over}
+use Rattle.row.specs.Came.{came, visitsIn, endIn, ENDED, oddIn, tallyIn, cameTo}
+use Rattle.row.proofs.Ends.{visits-in, next-counts, is-even, is-odd, reads-even, reads-odd}
 
 -- the last digit is the count: it flips alone
 pub flips : (r : ℕ) → endIn r < ENDED → bitXor r 1 ≡ came (visitsIn r) (1 - endIn r)
@@ -33,18 +24,13 @@ flips r small =
     by (suc zero) e = omega arith
     by (suc (suc k)) e = absurd (omega arith)
 
--- ---------------- the tally that it stands for
-module _ (allowance r : ℕ) where
-  pub next-spent : leb allowance (visitsIn r) ≡ true → next (tallyIn allowance r) ≡ Spent
-  next-spent e =
-      ap (λ (b : Bool). cond b (Left (record { allowance = allowance; visits = visitsIn r + 1 })) Spent) (le-ltb (visitsIn r) allowance (leb-true allowance (visitsIn r) e))
+-- the tally after a visit is that of the number with one visit more
+pub next-made : (allowance r : ℕ) (v : Tally) → next (tallyIn allowance r) ≡ Left v → v ≡ tallyIn allowance (came (visitsIn r + 1) (endIn r))
+next-made allowance r v e =
+    next-counts (tallyIn allowance r) v e
+    ∙ ap (λ (k : ℕ). record { allowance = allowance; visits = k }) (sym (visits-in (visitsIn r + 1) (endIn r) (omega arith)))
 
-  pub next-left : leb allowance (visitsIn r) ≡ false → next (tallyIn allowance r) ≡ Left (tallyIn allowance (came (visitsIn r + 1) (endIn r)))
-  next-left e =
-      ap (λ (b : Bool). cond b (Left (record { allowance = allowance; visits = visitsIn r + 1 })) Spent) (lt-ltb (visitsIn r) allowance (leb-false allowance (visitsIn r) e))
-      ∙ ap (λ (v : ℕ). Left (record { allowance = allowance; visits = v })) (sym (visits-in (visitsIn r + 1) (endIn r) (omega arith)))
-
--- ---------------- a walk that is over is read as its count, and goes on with it
+-- ---------------- a walk that is over is read as its count
 module _ (l m : Line) (allowance r : ℕ) where
   pub is-over : endIn r < ENDED → cameTo false true l m allowance r ≡ over (oddIn r) (tallyIn allowance r)
   is-over small = by (endIn r) refl
@@ -53,9 +39,6 @@ module _ (l m : Line) (allowance r : ℕ) where
       by zero e = is-even false true l m allowance r e
       by (suc zero) e = is-odd false true l m allowance r e
       by (suc (suc k)) e = absurd (omega arith)
-
-  pub goes-on : (go : Bool → Tally → Walked Bool) → endIn r < ENDED → goOn (cameTo false true l m allowance r) go ≡ go (oddIn r) (tallyIn allowance r)
-  goes-on go small = ap (λ (w : Walked Bool). goOn w go) (is-over small)
 
   pub is-flipped : endIn r < ENDED → cameTo false true l m allowance (came (visitsIn r) (1 - endIn r)) ≡ over (not (oddIn r)) (tallyIn allowance r)
   is-flipped small = by (endIn r) refl

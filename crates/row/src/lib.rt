@@ -204,14 +204,7 @@ pub fn tally_in(allowance: u32, came: u64) -> Tally
     }
 }
 
-// A walk so far is such a number as well, over with an even or an odd count. Whether no visit is left to it,
-pub fn spent(made: u64, allowance: u32) -> bool
-    ensures { λ r. ⌜ r ≡ leb allowance (visitsIn made) ⌝ }
-{
-    came(allowance, EVEN) <= made
-}
-
-// the same after one visit more,
+// A walk so far is such a number as well, over with an even or an odd count. This is the same after one visit more.
 pub fn visited(made: u64) -> u64
     requires { ⌜ visitsIn made + 1 < half ⌝ }
     ensures { λ r. ⌜ r ≡ came (visitsIn made + 1) (endIn made) ⌝ }
@@ -219,7 +212,7 @@ pub fn visited(made: u64) -> u64
     made + came(1, EVEN)
 }
 
-// and with a count that is odd where it was even, and even where it was odd.
+// The same with a count that is odd where it was even, and even where it was odd.
 pub fn flipped(made: u64) -> u64
     requires { ⌜ endIn made < ENDED ⌝ }
     ensures { λ r. ⌜ r ≡ came (visitsIn made) (1 - endIn made) ⌝ }

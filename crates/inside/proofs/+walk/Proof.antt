@@ -17,9 +17,9 @@ use Rattle.rules.specs.Walk.{next, Visit, Walked, ended, over, goOn}
 use Rattle.rules.specs.Walk.{walk as writtenWalk}
 use Rattle.rules.specs.Questions.{leftOf, rightOf, count, inVisit}
 use Rattle.visits.proofs.Levels.{none-left, visited, halved}
-use Rattle.row.specs.Came.{came, visitsIn, endIn, ODD, ENDED, badRow, oddIn, tallyIn, due, cameTo}
-use Rattle.row.proofs.Ends.{end-in, reads-ended, reads-spent, reads-bad, stops}
-use Rattle.row.proofs.SoFar.{next-spent, next-left, goes-on}
+use Rattle.row.specs.Came.{endIn, ODD, ENDED, badRow, oddIn, tallyIn, due, cameTo}
+use Rattle.row.proofs.Ends.{end-in, next-left, keeps, reads-ended, reads-spent, reads-bad, stops}
+use Rattle.row.proofs.SoFar.{next-made, is-over}
 use Rattle.row.proofs.Parts.{end-off}
 use Rattle.row.proofs.Places.{row-small, split-small, left-stands, right-stands, left-ends, right-ends}
 use Rattle.row.proofs.Dues.{due-stops, reads-bad-due}
@@ -41,11 +41,10 @@ use Rattle.line.proofs.point_at.Reads as point-at-reads
 use Rattle.row.proofs.bad_row.Reads as bad-row-reads
 use Rattle.row.proofs.bad_row_due.Reads as bad-row-due-reads
 use Rattle.row.proofs.came.Reads as came-reads
-use Rattle.row.proofs.spent.Reads as spent-reads
 use Rattle.row.proofs.stopped.Reads as stopped-reads
 use Rattle.row.proofs.tally_in.Reads as tally-in-reads
 use Rattle.row.proofs.visited.Reads as visited-reads
-use Rattle.row.proofs.visits_in.Reads as visits-in-reads
+use Rattle.rules.proofs.Tally.visit.Reads as Tally-visit-reads
 use Rattle.inside.proofs.+walk.{statement}
 use Rattle.inside.proofs.+walk.Tie.{close}
 
@@ -61,16 +60,16 @@ walk-below t = and 4 walk-kinds.ps (falls 4 walk-kinds.ps _<_ μ-walk t) walk.Pr
 -- what is known of the functions that it calls
 abbrev claims : ℕ → walk-lts.Claims
 claims t = (
-  spent-reads.Asked,
-  spent-reads.Learnt,
+  tally-in-reads.Asked,
+  tally-in-reads.Learnt,
+  Tally-visit-reads.Asked,
+  Tally-visit-reads.Learnt,
   came-reads.Asked,
   came-reads.Learnt,
   visited-reads.Asked,
   visited-reads.Learnt,
   visit-reads.Asked,
   visit-reads.Learnt,
-  visits-in-reads.Asked,
-  visits-in-reads.Learnt,
   bad-row-reads.Asked,
   bad-row-reads.Learnt,
   add-reads.Asked,
@@ -79,8 +78,6 @@ claims t = (
   point-at-reads.Learnt,
   on-sheet-reads.Asked,
   on-sheet-reads.Learnt,
-  tally-in-reads.Asked,
-  tally-in-reads.Learnt,
   bad-row-due-reads.Asked,
   bad-row-due-reads.Learnt,
   walk-below t,
@@ -96,16 +93,16 @@ module _ (t : ℕ) where
   Start = walk-lts.Start (claims t) (walk-at t) walk.Post
 
   abbrev Unspent : Type 0
-  Unspent = walk-lts.Else1 (claims t) (walk-at t) walk.Post
+  Unspent = walk-lts.After-known-told (claims t) (walk-at t) walk.Post
 
   abbrev Counted : Type 0
   Counted = walk-lts.After-visited (claims t) (walk-at t) walk.Post
 
   abbrev Seen : Type 0
-  Seen = walk-lts.After-visit (claims t) (walk-at t) walk.Post
+  Seen = walk-lts.After-visit2 (claims t) (walk-at t) walk.Post
 
   abbrev Split : Type 0
-  Split = walk-lts.After-known-told2 (claims t) (walk-at t) walk.Post
+  Split = walk-lts.After-known-told3 (claims t) (walk-at t) walk.Post
 
   abbrev Looked : Type 0
   Looked = walk-lts.After-on-sheet (claims t) (walk-at t) walk.Post
@@ -114,7 +111,7 @@ module _ (t : ℕ) where
   LeftWalked = walk-lts.After-walk (claims t) (walk-at t) walk.Post
 
   abbrev from : Unspent → Start
-  from c = c .before .before
+  from c = c .before .before .before .before .before
 
   abbrev counted : Seen → Counted
   counted c = c .before .before .before
@@ -168,35 +165,54 @@ module _ (t : ℕ) where
     some-level : (f : ℕ) → s .args .last ≤ f + s .args .first → 0 < f
     some-level f h = omega (arith, s .pre .1 .0 .some-segment)
 
-  spent-requires : walk-lts.Need-spent-requires (claims t) (walk-at t) walk.Post
-  spent-requires c κs = search needs
+  tally-in-requires : walk-lts.Need-tally-in-requires (claims t) (walk-at t) walk.Post
+  tally-in-requires c κs = search needs
+
+  visit-requires : walk-lts.Need-visit-requires (claims t) (walk-at t) walk.Post
+  visit-requires c κs = search needs
+
+  enum-known-counted : walk-lts.Need-enum-known-counted (claims t) (walk-at t) walk.Post
+  enum-known-counted c = search needs
+
+  enum-told : walk-lts.Need-enum-told (claims t) (walk-at t) walk.Post
+  enum-told c = search needs
 
   came-requires : walk-lts.Need-came-requires (claims t) (walk-at t) walk.Post
   came-requires c κs = search needs
 
   returns : walk-lts.Need-returns (claims t) (walk-at t) walk.Post
   returns c f h =
-      let k = c .before .before in
-      let s = k .before in
+      let k = c .before .before .before in
+      let s = k .before .before in
+      let told : k .visit .result ≡ Spent = cc in
+      let e = sym (k .visit .ensures ∙ ap next (k .before .tally-in .ensures)) ∙ told in
       ap (read s) (c .came .ensures)
       ∙ reads-spent false true LineA LineA _ 0
-      ∙ none-left (does s) (node s) (odd s) (tally s) f (some-level s f h) (next-spent (s .args .allowance) (s .args .so-far) (sym (k .spent .ensures) ∙ c .before .if1 .taken))
+      ∙ none-left (does s) (node s) (odd s) (tally s) f (some-level s f h) e
 
-  -- a visit is left, so one more can be counted
-  unspent : (c : Unspent) → leb (from c .args .allowance) (visitsIn (from c .args .so-far)) ≡ false
-  unspent c = sym (c .before .spent .ensures) ∙ c .if1 .left
+  -- the tally of this visit
+  abbrev tallied : Unspent → Tally
+  tallied c = c .before .counted .given .0 .0
+
+  left-one : (c : Unspent) → next (tally (from c)) ≡ Left (tallied c)
+  left-one c =
+      let k = c .before .before .before in sym (k .visit .ensures ∙ ap next (k .before .tally-in .ensures)) ∙ c .before .counted .given .1
 
   visited-requires : walk-lts.Need-visited-requires (claims t) (walk-at t) walk.Post
   visited-requires c κs =
-      let a = from c .args in
-      let more = leb-false (a .allowance) (visitsIn (a .so-far)) (unspent c) in omega (arith, more, from c .fits .allowance .fits)
+      let more = next-left (tally (from c)) (tallied c) (left-one c) in omega (arith, more, from c .fits .allowance .fits)
 
   -- the number with this visit: its tally is the next one, and its count the same
   abbrev number : Counted → ℕ
   number c = c .visited .result
 
+  same-tally : (c : Counted) → tallied (c .before) ≡ tallyOf (from (c .before)) (number c)
+  same-tally c =
+      let s = from (c .before) in
+      next-made (s .args .allowance) (s .args .so-far) (tallied (c .before)) (left-one (c .before)) ∙ ap (tallyOf s) (sym (c .visited .ensures))
+
   made : (c : Counted) → next (tally (from (c .before))) ≡ Left (tallyOf (from (c .before)) (number c))
-  made c = let s = from (c .before) in next-left (s .args .allowance) (s .args .so-far) (unspent (c .before)) ∙ ap (λ (n : ℕ). Left (tallyOf s n)) (sym (c .visited .ensures))
+  made c = left-one (c .before) ∙ ap Left (same-tally c)
 
   end-kept : (c : Counted) → endIn (number c) ≡ endIn (from (c .before) .args .so-far)
   end-kept c = let small = from (c .before) .pre .1 .3 in ap endIn (c .visited .ensures) ∙ end-in _ _ (omega arith)
@@ -207,27 +223,21 @@ module _ (t : ℕ) where
   still-over : (c : Counted) → endIn (number c) < ENDED
   still-over c = subst (λ (e : ℕ). e < ENDED) (sym (end-kept c)) (from (c .before) .pre .1 .3)
 
-  did : (c : Seen) {v : Step} → c .visit .result ≡ v → stepVisit (node (start c)) v ≡ does (start c) (node (start c))
+  did : (c : Seen) {v : Step} → c .visit2 .result ≡ v → stepVisit (node (start c)) v ≡ does (start c) (node (start c))
   did c e =
-      let s = start c in ap (stepVisit (node s)) (sym e) ∙ c .visit .ensures .0 ∙ (λ d. doesAt s (same s d) (node s))
+      let s = start c in ap (stepVisit (node s)) (sym e) ∙ c .visit2 .ensures .0 ∙ (λ d. doesAt s (same s d) (node s))
 
-  visit-requires : walk-lts.Need-visit-requires (claims t) (walk-at t) walk.Post
-  visit-requires c κs = let s = from (c .before .before .before) in (s .pre .1 .0, s .pre .1 .1, stored-on (s .pre .1 .2))
-
-  enum-told : walk-lts.Need-enum-told (claims t) (walk-at t) walk.Post
-  enum-told c = search needs
-
-  visits-in-requires : walk-lts.Need-visits-in-requires (claims t) (walk-at t) walk.Post
-  visits-in-requires c κs = search needs
-
-  bad-row-requires : walk-lts.Need-bad-row-requires (claims t) (walk-at t) walk.Post
-  bad-row-requires c κs = row-small (start (c .before .before .before) .pre .1 .0)
+  visit-requires-2 : walk-lts.Need-visit-requires-2 (claims t) (walk-at t) walk.Post
+  visit-requires-2 c κs = let s = from (c .before .before .before) in (s .pre .1 .0, s .pre .1 .1, stored-on (s .pre .1 .2))
 
   enum-told-2 : walk-lts.Need-enum-told-2 (claims t) (walk-at t) walk.Post
   enum-told-2 c = search needs
 
-  visits-in-requires-2 : walk-lts.Need-visits-in-requires-2 (claims t) (walk-at t) walk.Post
-  visits-in-requires-2 c κs = search needs
+  bad-row-requires : walk-lts.Need-bad-row-requires (claims t) (walk-at t) walk.Post
+  bad-row-requires c κs = row-small (start (c .before .before) .pre .1 .0)
+
+  enum-told-3 : walk-lts.Need-enum-told-3 (claims t) (walk-at t) walk.Post
+  enum-told-3 c = search needs
 
   came-requires-2 : walk-lts.Need-came-requires-2 (claims t) (walk-at t) walk.Post
   came-requires-2 c κs = search needs
@@ -246,7 +256,7 @@ module _ (t : ℕ) where
   mid c = c .before .mid .given .0 .0
 
   inner : (c : Split) → SplitsInside (node (start (seen c))) (Halve (mid c))
-  inner c = subst (SplitsInside (node (start (seen c)))) (c .before .mid .given .1) (seen c .visit .ensures .1)
+  inner c = subst (SplitsInside (node (start (seen c)))) (c .before .mid .given .1) (seen c .visit2 .ensures .1)
 
   add-next : walk-lts.Need-add-next (claims t) (walk-at t) walk.Post
   add-next c = let small = row-small (start (seen c) .pre .1 .0) in omega arith
@@ -267,11 +277,8 @@ module _ (t : ℕ) where
   next-small : (c : Split) → start (seen c) .args .row + 1 < 8193
   next-small c = let h = inner c in row-small (left-stands (start (seen c) .pre .1 .0) (h .0) (h .1))
 
-  tally-in-requires : walk-lts.Need-tally-in-requires (claims t) (walk-at t) walk.Post
-  tally-in-requires c κs = search needs
-
   bad-row-due-requires : walk-lts.Need-bad-row-due-requires (claims t) (walk-at t) walk.Post
-  bad-row-due-requires c κs = next-small (split (c .before .before))
+  bad-row-due-requires c κs = next-small (split (c .before))
 
   -- the right half, as it is left to do, with a count and a tally; after what the left half comes to, that makes the walk
   abbrev onRight : Split → ℕ → Bool → Tally → Walked Bool
@@ -290,15 +297,15 @@ module _ (t : ℕ) where
 
   returns-2 : walk-lts.Need-returns-2 (claims t) (walk-at t) walk.Post
   returns-2 c f h =
-      let k = c .before .before .before in
+      let k = c .before .before in
       let o = split k in
       let s = start (seen o) in
       let i = inner o in
       let l = leftOf (node s) (mid o) in
       let v = leftTally o in
       let small = next-small o in
-      let e = c .bad-row-due .ensures ∙ ap (λ (y : Tally). due (next y) (badRow + l .row)) (c .before .tally-in .ensures) in
-      let off = end-off (s .args .points .now .now) _ (s .args .first) (mid o) (sym (looked k) ∙ not-true _ (c .before .before .if2 .taken)) in
+      let e = c .bad-row-due .ensures ∙ ap (λ (y : Tally). due (next y) (badRow + l .row)) (same-tally (counted (seen o))) in
+      let off = end-off (s .args .points .now .now) _ (s .args .first) (mid o) (sym (looked k) ∙ not-true _ (c .before .if1 .taken)) in
       let bad = visit-bad (s .args .points .now .now) (s .args .table .now .now) (z s) l _ refl off in
       sym (stops false true LineA LineA _ (c .bad-row-due .result) _ (ap (λ r. leb ENDED (endIn r)) e ∙ due-stops (next v) (badRow + l .row) (omega arith) (omega arith)))
       ∙ after-left o f (c .bad-row-due .result) h (ap (read s) e ∙ reads-bad-due false true LineA LineA (does s) l (odd s) v (pred f) (omega arith) (l .row) small bad)
@@ -312,7 +319,7 @@ module _ (t : ℕ) where
       let o = split (c .before) in
       let s = start (seen o) in
       let h = inner o in
-      let on = split-on (c .before) (not-false _ (c .if2 .left)) in
+      let on = split-on (c .before) (not-false _ (c .if1 .left)) in
       (omega (arith, s .pre .0), (left-stands (s .pre .1 .0) (h .0) (h .1), left-ends (s .pre .1 .1) on, stored-on (s .pre .1 .2), still-over (counted (seen (split (c .before))))))
 
   stopped-requires : walk-lts.Need-stopped-requires (claims t) (walk-at t) walk.Post
@@ -330,7 +337,7 @@ module _ (t : ℕ) where
   returns-3 : walk-lts.Need-returns-3 (claims t) (walk-at t) walk.Post
   returns-3 c f h =
       let k = c .before in
-      sym (stops false true LineA LineA _ (k .before .walk .result) _ (sym (k .stopped .ensures) ∙ c .if3 .taken)) ∙ left-walked (k .before) f h
+      sym (stops false true LineA LineA _ (k .before .walk .result) _ (sym (k .stopped .ensures) ∙ c .if2 .taken)) ∙ left-walked (k .before) f h
 
   sub-right : walk-lts.Need-sub-right (claims t) (walk-at t) walk.Post
   sub-right c = let h = inner (split (looking (c .before .before))) in omega arith
@@ -350,8 +357,8 @@ module _ (t : ℕ) where
       let small = split-small p (h .0) (h .1) in omega arith
 
   -- the left half did not stop the walk
-  left-over : (c : walk-lts.Else3 (claims t) (walk-at t) walk.Post) → endIn (c .before .before .walk .result) < ENDED
-  left-over c = leb-false ENDED _ (sym (c .before .stopped .ensures) ∙ c .if3 .left)
+  left-over : (c : walk-lts.Else2 (claims t) (walk-at t) walk.Post) → endIn (c .before .before .walk .result) < ENDED
+  left-over c = leb-false ENDED _ (sym (c .before .stopped .ensures) ∙ c .if2 .left)
 
   walk-requires-2 : walk-lts.Need-walk-requires-2 (claims t) (walk-at t) walk.Post
   walk-requires-2 c κs =
@@ -359,26 +366,28 @@ module _ (t : ℕ) where
       let o = split (looking w) in
       let s = start (seen o) in
       let h = inner o in
-      let on = split-on (looking w) (not-false _ (w .before .if2 .left)) in
+      let on = split-on (looking w) (not-false _ (w .before .if1 .left)) in
       (omega (arith, s .pre .0), (right-stands (s .pre .1 .0) (h .0) (h .1), right-ends (s .pre .1 .1) on, stored-on (s .pre .1 .2), left-over c))
 
   returns-4 : walk-lts.Need-returns-4 (claims t) (walk-at t) walk.Post
   returns-4 c f h =
-      let w = c .before .before .before .before in
+      let w = c .before .before .before in
       let s = start w in
-      let e : w .visit .result ≡ Bad = cc in
-      ap (read s) (c .bad-row .ensures ∙ ap (λ (v : ℕ). came v (badRow + s .args .row)) (c .before .visits-in .ensures))
+      let e : w .visit2 .result ≡ Bad = cc in
+      ap (read s) (c .bad-row .ensures)
       ∙ reads-bad false true LineA LineA _ _ (s .args .row) (row-small (s .pre .1 .0))
-      ∙ visited (does s) (node s) (odd s) (tally s) f (some-level s f h) (made (counted w)) (did w e)
+      ∙ visited (does s) (node s) (odd s) (tally s) f (some-level s f h) (left-one (counted w .before)) (did w e)
 
   returns-5 : walk-lts.Need-returns-5 (claims t) (walk-at t) walk.Post
   returns-5 c f h =
-      let w = c .before .before .before .before in
+      let w = c .before .before .before in
       let s = start w in
-      let e : w .visit .result ≡ Finish = cc in
-      ap (read s) (c .came2 .ensures ∙ ap (λ (v : ℕ). came v ENDED) (c .before .visits-in2 .ensures))
+      let u = counted w .before in
+      let e : w .visit2 .result ≡ Finish = cc in
+      ap (read s) (c .came2 .ensures)
       ∙ reads-ended false true LineA LineA _ _
-      ∙ visited (does s) (node s) (odd s) (tally s) f (some-level s f h) (made (counted w)) (did w e)
+      ∙ ap (λ (k : ℕ). ended (record { allowance = k; visits = tallied u .visits })) (sym (keeps (tally s) (tallied u) (left-one u)))
+      ∙ visited (does s) (node s) (odd s) (tally s) f (some-level s f h) (left-one u) (did w e)
 
   returns-6 : walk-lts.Need-returns-6 (claims t) (walk-at t) walk.Post
   returns-6 c f h =
@@ -399,23 +408,24 @@ module _ (t : ℕ) where
       let left = w .walk .result in
       c .walk2 .ensures (pred f) (omega arith)
       ∙ (λ d. writtenWalk (doesAt s (same s d)) (pred f) (rightOf (node s) (mid o)) (oddIn left) (tallyOf s left))
-      ∙ sym (goes-on LineA LineA _ left (onRight o f) (left-over e))
+      ∙ sym (ap (λ (k : Walked Bool). goOn k (onRight o f)) (is-over LineA LineA _ left (left-over e)))
       ∙ left-walked w f h
 
 pub +walk-spec : {M : Type 1} → statement M
 +walk-spec =
     close μ-walk λ t.
     walk-lts.spec (claims t) (walk-at t) walk.Post
-    (spent-requires t)
+    (tally-in-requires t)
+    (visit-requires t)
+    (enum-known-counted t)
+    (enum-told t)
     (came-requires t)
     (returns t)
     (visited-requires t)
-    (visit-requires t)
-    (enum-told t)
-    (visits-in-requires t)
-    (bad-row-requires t)
+    (visit-requires-2 t)
     (enum-told-2 t)
-    (visits-in-requires-2 t)
+    (bad-row-requires t)
+    (enum-told-3 t)
     (came-requires-2 t)
     (enum-known-crossed t)
     (add-requires t)
@@ -423,7 +433,6 @@ pub +walk-spec : {M : Type 1} → statement M
     (add-next t)
     (point-at-requires t)
     (on-sheet-requires t)
-    (tally-in-requires t)
     (bad-row-due-requires t)
     (returns-2 t)
     (walk-requires t)

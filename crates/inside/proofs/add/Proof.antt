@@ -1,11 +1,10 @@
 -- `add` flips the count where one more is crossed.
 use mathlib.Core.Path.{_≡_, refl, sym, _∙_, ap}
 use mathlib.Core.Bool.{Bool, true, false, not}
-use Prim.Native.Nat.{ℕ, _<_}
 use Rattle.rules.specs.declared.Line.the-variants.{LineA}
 use Rattle.rules.specs.Questions.{count}
 use Rattle.rules.specs.Walk.{over}
-use Rattle.row.specs.Came.{endIn, ENDED, oddIn, tallyIn, cameTo}
+use Rattle.row.specs.Came.{oddIn, tallyIn, cameTo}
 use Rattle.row.proofs.SoFar.{is-over, is-flipped}
 use borrow.Author.Needs.{needs}
 use Rattle.inside.proofs.add.Statement.{statement}
