@@ -5,7 +5,7 @@ use lib.Dec.{eqb}
 use Rattle.rules.specs.declared.Line.{Line}
 use Rattle.rules.specs.declared.Refusal.{Refusal}
 use Rattle.rules.specs.Questions.{Asked, allNear, faulted, onNear}
-use Rattle.row.specs.Came.{visitsIn, endIn, cameTo}
+use Rattle.ends.specs.Came.{visitsIn, endIn, cameTo}
 
 -- how the asking of a point off the sheet ends, above every bad row's number, and refusal 8 of it
 abbrev pub OFF : ℕ

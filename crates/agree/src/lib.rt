@@ -18,7 +18,7 @@ ghost use Rattle.rules.specs.Reply.{agreementReply};
 ghost use Rattle.rules.specs.Rows.{endsGood};
 ghost use Rattle.rules.specs.Questions.{askAll, agreed, agreeReply};
 ghost use Rattle.line.specs.Fine.{LengthsFine};
-ghost use Rattle.row.specs.Came.{endIn, ENDED};
+ghost use Rattle.ends.specs.Came.{endIn, ENDED};
 ghost use Rattle.agree.specs.Said.{asked};
 
 // How the asking of a point off the sheet ends: above the number of every bad row.
@@ -45,7 +45,7 @@ fn ask_point(
 {
     let z = line::point_at(points, i);
     if !line::on_sheet(z) {
-        return row::came(visits, OFF);
+        return ends::came(visits, OFF);
     }
     let tally = Tally { allowance, visits };
     near::ask(theirs, table, z, d, tally)
@@ -64,12 +64,12 @@ fn ask_all(
     ensures { λ r. ⌜ ((line other : Line) → asked line other (r .at) allowance (r .came) ≡ askAll line (now (points .entry)) other (now (now (theirs .entry))) (now (now (table .entry))) d 0 (pointsOf (now (points .entry))) (record { allowance = allowance; visits = visits })) ⌝ }
 {
     let count = points.len() / 2;
-    let mut came = row::came(visits, row::ENDED);
+    let mut came = ends::came(visits, ends::ENDED);
     let mut i = 0;
     while i < count {
-        let made = row::visits_in(came);
+        let made = ends::visits_in(came);
         came = ask_point(points, i, theirs, table, d, allowance, made);
-        if row::end_in(came) != row::ENDED {
+        if ends::end_in(came) != ends::ENDED {
             return Stopped { at: i, came };
         }
         i += 1;
@@ -86,13 +86,13 @@ fn bad_start(points: &[i32], allowance: u32, visits: u32) -> Stopped
     if !line::on_sheet(line::point_at(points, 0)) {
         return Stopped {
             at: 0,
-            came: row::came(visits, OFF),
+            came: ends::came(visits, OFF),
         };
     }
     let tally = Tally { allowance, visits };
     Stopped {
         at: 0,
-        came: row::bad_row_due(tally, 0),
+        came: ends::bad_row_due(tally, 0),
     }
 }
 
@@ -102,19 +102,19 @@ fn agreement(line: Line, other: Line, stopped: Stopped, allowance: u32) -> Agree
 {
     let at = stopped.at;
     let came = stopped.came;
-    let end = row::end_in(came);
-    let visits = row::visits_in(came);
-    if end < row::ENDED {
+    let end = ends::end_in(came);
+    let visits = ends::visits_in(came);
+    if end < ends::ENDED {
         return Agreement::No {
             line,
             point: at,
             visits,
         };
     }
-    if end == row::ENDED {
+    if end == ends::ENDED {
         return Agreement::Yes(visits);
     }
-    if end == row::SPENT {
+    if end == ends::SPENT {
         return Agreement::Undecided(allowance);
     }
     if end == OFF {
@@ -125,7 +125,7 @@ fn agreement(line: Line, other: Line, stopped: Stopped, allowance: u32) -> Agree
             visits,
         });
     }
-    Agreement::Refused(row::refusal(other, other, came))
+    Agreement::Refused(ends::refusal(other, other, came))
 }
 
 // Whether two lines agree at a distance: refusals 1, 2, 3, 6 of A, then of B, then 7, then the walks.
@@ -155,10 +155,10 @@ pub fn agree(
         return agreement(Line::LineA, Line::LineB, met, allowance);
     }
     let a = ask_all(points_a, &points_b, &table_b, distance, allowance, 0);
-    if row::end_in(a.came) != row::ENDED {
+    if ends::end_in(a.came) != ends::ENDED {
         return agreement(Line::LineA, Line::LineB, a, allowance);
     }
-    let visits = row::visits_in(a.came);
+    let visits = ends::visits_in(a.came);
     if !row::ends_on_sheet(points_a) {
         let met = bad_start(points_b, allowance, visits);
         return agreement(Line::LineB, Line::LineA, met, allowance);

@@ -35,7 +35,7 @@ ghost use Rattle.rules.specs.Walk.{over, fresh, walk};
 ghost use Rattle.visits.specs.Small.{OnSheet, Small};
 ghost use Rattle.line.specs.Fine.{LengthsFine};
 ghost use Rattle.row.specs.Stands.{Stands, EndsOn};
-ghost use Rattle.row.specs.Came.{endIn, ENDED, oddIn, tallyIn, cameTo};
+ghost use Rattle.ends.specs.Came.{endIn, ENDED, oddIn, tallyIn, cameTo};
 ghost use Rattle.inside.specs.Said.{leafStep, innerStep, stepVisit, SplitsInside};
 
 // Whether v lies between lo and hi.
@@ -241,7 +241,7 @@ fn add(made: u64, crossed: bool) -> u64
     ensures { λ r. ⌜ ((allowance : ℕ) → cameTo false true Line.LineA Line.LineA allowance r ≡ over (count crossed (oddIn made)) (tallyIn allowance made)) ⌝ }
 {
     if crossed {
-        return row::flipped(made);
+        return ends::flipped(made);
     }
     made
 }
@@ -262,21 +262,21 @@ fn walk(
     requires { ⌜ Stands (now (now points)) (now (now table)) (record { row = row; first = first; last = last }) × EndsOn (now (now points)) (record { row = row; first = first; last = last }) × OnSheet (record { x = x; y = y }) × (endIn «so_far» < ENDED) ⌝ }
     ensures { λ r. ⌜ ((f : ℕ) → last ≤ f + first → cameTo false true Line.LineA Line.LineA allowance r ≡ walk (inVisit (now (now (points .entry))) (now (now (table .entry))) (record { x = x; y = y })) f (record { row = row; first = first; last = last }) (oddIn «so_far») (tallyIn allowance «so_far»)) ⌝ }
 {
-    let Next::Left(counted) = row::tally_in(allowance, so_far).visit() else {
-        return row::came(0, row::SPENT);
+    let Next::Left(counted) = ends::tally_in(allowance, so_far).visit() else {
+        return ends::came(0, ends::SPENT);
     };
-    let made = row::visited(so_far);
+    let made = ends::visited(so_far);
     match visit(*points, *table, Node { row, first, last }, Point { x, y }) {
-        Step::Bad => row::bad_row(counted.visits, row),
-        Step::Finish => row::came(counted.visits, row::ENDED),
+        Step::Bad => ends::bad_row(counted.visits, row),
+        Step::Finish => ends::came(counted.visits, ends::ENDED),
         Step::Pass(crossed) => add(made, crossed),
         Step::Halve(mid) => {
             let next = row + 1;
             if !on_sheet(point_at(*points, mid)) {
-                return row::bad_row_due(counted, next);
+                return ends::bad_row_due(counted, next);
             }
             let left = walk(points, table, next, first, mid, made, x, y, allowance);
-            if row::stopped(left) {
+            if ends::stopped(left) {
                 return left;
             }
             let right = row + 2 * (mid - first);
@@ -295,7 +295,7 @@ fn ask(points: &&[i32], table: &&[i32], z: Point, allowance: u32) -> u64
             allowance,
             visits: 0,
         };
-        return row::bad_row_due(fresh, 0);
+        return ends::bad_row_due(fresh, 0);
     }
     let last = points.len() / 2 - 1;
     walk(points, table, 0, 0, last, 0, z.x, z.y, allowance)
@@ -317,21 +317,21 @@ fn no_ring(points: &[i32]) -> bool
 fn side_of_ring(came: u64, allowance: u32) -> Side
     ensures { λ r. ⌜ sideReply r ≡ sideOfRing allowance (cameTo false true Line.LineA Line.LineA allowance came) ⌝ }
 {
-    let end = row::end_in(came);
-    let visits = row::visits_in(came);
-    if end < row::ENDED {
-        if end == row::ODD {
+    let end = ends::end_in(came);
+    let visits = ends::visits_in(came);
+    if end < ends::ENDED {
+        if end == ends::ODD {
             return Side::Inside(visits);
         }
         return Side::Outside(visits);
     }
-    if end == row::ENDED {
+    if end == ends::ENDED {
         return Side::OnEdge(visits);
     }
-    if end == row::SPENT {
+    if end == ends::SPENT {
         return Side::Undecided(allowance);
     }
-    Side::Refused(row::refusal(Line::LineA, Line::LineA, came))
+    Side::Refused(ends::refusal(Line::LineA, Line::LineA, came))
 }
 
 // Which side of the ring z is on, by at most this many visits. Refusals 1, 2, 3, 6, 8, 9, then the walk.

@@ -22,10 +22,10 @@ use Rattle.rules.specs.Questions.{Nothing, root, leaf, splitIn, openNode, start
 use Rattle.visits.proofs.Nodes.{between-read}
 use Rattle.visits.proofs.Tests.{four-yes}
 use Rattle.line.specs.Fine.{LengthsFine}
-use Rattle.row.specs.Came.{badRow, due, cameTo}
+use Rattle.ends.specs.Came.{badRow, due, cameTo}
 use Rattle.row.specs.Parts.{frameGood, leafFits, splitFits}
 use Rattle.row.specs.Stands.{Stands, EndsOn}
-use Rattle.row.proofs.Dues.{reads-bad-due}
+use Rattle.ends.proofs.Dues.{reads-bad-due}
 use Rattle.row.proofs.Parts.{lastRule, end-off, ends-off, between-parts}
 use Rattle.row.proofs.Places.{opens}
 use Rattle.near.specs.Bounds.{HoldsStart}

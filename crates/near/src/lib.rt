@@ -24,7 +24,7 @@ ghost use Rattle.rules.specs.Questions.{shortfall, farFrom, nearVisit, nearWalk
 ghost use Rattle.visits.specs.Small.{OnSheet, Small, widest};
 ghost use Rattle.line.specs.Fine.{LengthsFine};
 ghost use Rattle.row.specs.Stands.{Stands, EndsOn};
-ghost use Rattle.row.specs.Came.{cameTo};
+ghost use Rattle.ends.specs.Came.{cameTo};
 ghost use Rattle.near.specs.Bounds.{HoldsStart};
 ghost use Rattle.near.specs.Said.{visitOf, leafSeen, innerSeen, SplitsBetween};
 
@@ -185,25 +185,25 @@ fn walk(
 {
     let tally = Tally { allowance, visits };
     let Next::Left(counted) = tally.visit() else {
-        return row::came(0, row::SPENT);
+        return ends::came(0, ends::SPENT);
     };
     let made = counted.visits;
     let node = Node { row, first, last };
     match visit(*points, *table, node, Point { x, y }, reach) {
-        Visited::Bad => row::bad_row(made, row),
-        Visited::Finish => row::came(made, row::ENDED),
-        Visited::Pass => row::came(made, row::EVEN),
+        Visited::Bad => ends::bad_row(made, row),
+        Visited::Finish => ends::came(made, ends::ENDED),
+        Visited::Pass => ends::came(made, ends::EVEN),
         Visited::Halve(mid) => {
             let low = row + 1;
             if !line::on_sheet(line::point_at(*points, mid)) {
-                return row::bad_row_due(counted, low);
+                return ends::bad_row_due(counted, low);
             }
             let high = row + 2 * (mid - first);
             let left = walk(points, table, low, first, mid, x, y, reach, allowance, made);
-            if row::stopped(left) {
+            if ends::stopped(left) {
                 return left;
             }
-            let made = row::visits_in(left);
+            let made = ends::visits_in(left);
             walk(points, table, high, mid, last, x, y, reach, allowance, made)
         }
     }
@@ -235,7 +235,7 @@ fn ask_any(points: &&[i32], table: &&[i32], z: Point, d: i64, tally: Tally) -> u
     ensures { λ r. ⌜ ((l m : Line) → cameTo tt tt l m (tally .allowance) r ≡ nearWalk l (now (now (points .entry))) (now (now (table .entry))) z d tally) ⌝ }
 {
     if !row::ends_on_sheet(*points) {
-        return row::bad_row_due(tally, 0);
+        return ends::bad_row_due(tally, 0);
     }
     ask(points, table, z, d, tally)
 }
@@ -264,5 +264,5 @@ pub fn near(points: &[i32], table: &[i32], z: Point, distance: i64, allowance: u
         allowance,
         visits: 0,
     };
-    row::answer(ask_any(&points, &table, z, distance, fresh), allowance)
+    ends::answer(ask_any(&points, &table, z, distance, fresh), allowance)
 }

@@ -1,4 +1,3 @@
 -- What the contracts of `row` are said with.
 pub mod Stands
-pub mod Came
 pub mod Parts

@@ -26,7 +26,7 @@ use Rattle.line.specs.Fine.{LengthsFine}
 use Rattle.line.specs.Said.{checkedRefusal}
 use Rattle.line.proofs.Lengths.{lengths-fine}
 use Rattle.line.proofs.Stored.{stored-abs}
-use Rattle.row.specs.Came.{endIn}
+use Rattle.ends.specs.Came.{endIn}
 use Rattle.near.proofs.Sizes.{distance-abs}
 use Rattle.agree.specs.Said.{asked}
 use Rattle.agree.proofs.Points.{is-near, stops}

@@ -4,7 +4,7 @@ use Prim.Native.Nat.{_<_, _≤_}
 use native.Mathlib.Omega.{arith}
 use Rattle.rules.specs.Reply.{YES, says, refuses, disagrees}
 use Rattle.rules.specs.Questions.{agreed}
-use Rattle.row.specs.Came.{endIn, badRow}
+use Rattle.ends.specs.Came.{endIn, badRow}
 use Rattle.agree.specs.Said.{offSheet}
 use Rattle.agree.proofs.Points.{is-not-near, is-near, is-unasked, is-off, is-refused}
 use borrow.Author.Needs.{needs}

@@ -10,8 +10,8 @@ use Rattle.rules.specs.declared.Tally.{Tally}
 use Rattle.rules.specs.Sheet.{pointsOf}
 use Rattle.rules.specs.Questions.{Asked, askAll, onAllNear}
 use Rattle.line.proofs.Stored.{stored, stored-abs}
-use Rattle.row.specs.Came.{visitsIn, endIn, tallyIn}
-use Rattle.row.proofs.Ends.{visits-in, end-in}
+use Rattle.ends.specs.Came.{visitsIn, endIn, tallyIn}
+use Rattle.ends.proofs.Ends.{visits-in, end-in}
 use Rattle.agree.specs.Said.{asked}
 use Rattle.agree.proofs.Points.{is-near, stops, next-point, no-point}
 use borrow.Author.Needs.{needs}

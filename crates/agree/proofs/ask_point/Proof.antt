@@ -11,7 +11,7 @@ use Rattle.rules.specs.Sheet.{point, onSheet}
 use Rattle.rules.specs.Questions.{nearWalk}
 use Rattle.visits.proofs.OnSheets.{on-sheet}
 use Rattle.line.proofs.Stored.{stored, stored-abs}
-use Rattle.row.specs.Came.{endIn, badSecond, cameTo}
+use Rattle.ends.specs.Came.{endIn, badSecond, cameTo}
 use Rattle.agree.specs.Said.{asked}
 use Rattle.agree.proofs.Points.{reads-off, heard, one-line, one-point}
 use borrow.Author.Needs.{needs}

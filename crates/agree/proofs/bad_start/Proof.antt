@@ -6,8 +6,8 @@ use Rattle.rules.specs.declared.Point.{Point}
 use Rattle.rules.specs.declared.Tally.{Tally}
 use Rattle.rules.specs.Sheet.{point, pointsOf, onSheet}
 use Rattle.rules.specs.Walk.{next}
-use Rattle.row.specs.Came.{came, badRow, due}
-use Rattle.row.proofs.Ends.{end-in}
+use Rattle.ends.specs.Came.{came, badRow, due}
+use Rattle.ends.proofs.Ends.{end-in}
 use Rattle.near.proofs.Visits.{root-bad}
 use Rattle.agree.specs.Said.{OFF, asked}
 use Rattle.agree.proofs.Points.{reads-off, root-end, heard, one-point, first-stops}

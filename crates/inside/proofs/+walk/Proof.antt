@@ -17,12 +17,12 @@ use Rattle.rules.specs.Walk.{next, Visit, Walked, ended, over, goOn}
 use Rattle.rules.specs.Walk.{walk as writtenWalk}
 use Rattle.rules.specs.Questions.{leftOf, rightOf, count, inVisit}
 use Rattle.visits.proofs.Levels.{none-left, visited, halved}
-use Rattle.row.specs.Came.{endIn, ODD, ENDED, badRow, oddIn, tallyIn, due, cameTo}
-use Rattle.row.proofs.Ends.{end-in, next-left, keeps, reads-ended, reads-spent, reads-bad, stops}
-use Rattle.row.proofs.SoFar.{next-made, is-over}
+use Rattle.ends.specs.Came.{endIn, ODD, ENDED, badRow, oddIn, tallyIn, due, cameTo}
+use Rattle.ends.proofs.Ends.{end-in, next-left, keeps, reads-ended, reads-spent, reads-bad, stops}
+use Rattle.ends.proofs.SoFar.{next-made, is-over}
 use Rattle.row.proofs.Parts.{end-off}
 use Rattle.row.proofs.Places.{row-small, split-small, left-stands, right-stands, left-ends, right-ends}
-use Rattle.row.proofs.Dues.{due-stops, reads-bad-due}
+use Rattle.ends.proofs.Dues.{due-stops, reads-bad-due}
 use Rattle.inside.specs.declared.Step.{Step}
 use Rattle.inside.specs.declared.Step.the-variants.{Bad, Finish, Halve}
 use Rattle.inside.specs.Said.{stepVisit, SplitsInside}
@@ -38,12 +38,12 @@ use Rattle.inside.proofs.add.Reads as add-reads
 use Rattle.inside.proofs.visit.Reads as visit-reads
 use Rattle.line.proofs.on_sheet.Reads as on-sheet-reads
 use Rattle.line.proofs.point_at.Reads as point-at-reads
-use Rattle.row.proofs.bad_row.Reads as bad-row-reads
-use Rattle.row.proofs.bad_row_due.Reads as bad-row-due-reads
-use Rattle.row.proofs.came.Reads as came-reads
-use Rattle.row.proofs.stopped.Reads as stopped-reads
-use Rattle.row.proofs.tally_in.Reads as tally-in-reads
-use Rattle.row.proofs.visited.Reads as visited-reads
+use Rattle.ends.proofs.bad_row.Reads as bad-row-reads
+use Rattle.ends.proofs.bad_row_due.Reads as bad-row-due-reads
+use Rattle.ends.proofs.came.Reads as came-reads
+use Rattle.ends.proofs.stopped.Reads as stopped-reads
+use Rattle.ends.proofs.tally_in.Reads as tally-in-reads
+use Rattle.ends.proofs.visited.Reads as visited-reads
 use Rattle.rules.proofs.Tally.visit.Reads as Tally-visit-reads
 use Rattle.inside.proofs.+walk.{statement}
 use Rattle.inside.proofs.+walk.Tie.{close}

@@ -4,8 +4,8 @@ use mathlib.Core.Bool.{Bool, true, false, not}
 use Rattle.rules.specs.declared.Line.the-variants.{LineA}
 use Rattle.rules.specs.Questions.{count}
 use Rattle.rules.specs.Walk.{over}
-use Rattle.row.specs.Came.{oddIn, tallyIn, cameTo}
-use Rattle.row.proofs.SoFar.{is-over, is-flipped}
+use Rattle.ends.specs.Came.{oddIn, tallyIn, cameTo}
+use Rattle.ends.proofs.SoFar.{is-over, is-flipped}
 use borrow.Author.Needs.{needs}
 use Rattle.inside.proofs.add.Statement.{statement}
 use Rattle.inside.proofs.add.Tie as tie

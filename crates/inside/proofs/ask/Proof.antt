@@ -9,9 +9,9 @@ use Rattle.rules.specs.declared.Line.the-variants.{LineA}
 use Rattle.rules.specs.Sheet.{segmentsOf}
 use Rattle.rules.specs.Walk.{walk, fresh}
 use Rattle.rules.specs.Questions.{root, inVisit}
-use Rattle.row.specs.Came.{cameTo}
+use Rattle.ends.specs.Came.{cameTo}
 use Rattle.row.proofs.Places.{root-stands, root-ends}
-use Rattle.row.proofs.Dues.{reads-bad-due}
+use Rattle.ends.proofs.Dues.{reads-bad-due}
 use Rattle.row.proofs.Parts.{ends-off}
 use Rattle.line.proofs.Stored.{point-stored, stored-on}
 use Rattle.inside.proofs.Visits.{visit-bad}

@@ -7,8 +7,8 @@ use Rattle.rules.specs.declared.Line.the-variants.{LineA}
 use Rattle.rules.specs.Reply.{says, refuses, INSIDE, OUTSIDE, ON}
 use Rattle.rules.specs.Questions.{sideOfRing}
 use Rattle.rules.specs.Walk.{Walked}
-use Rattle.row.specs.Came.{endIn, badRow, cameTo}
-use Rattle.row.proofs.Ends.{is-even, is-odd, is-ended, is-spent, is-bad}
+use Rattle.ends.specs.Came.{endIn, badRow, cameTo}
+use Rattle.ends.proofs.Ends.{is-even, is-odd, is-ended, is-spent, is-bad}
 use Rattle.inside.proofs.side_of_ring.Statement.{statement}
 use Rattle.inside.proofs.side_of_ring.Tie as tie
 

@@ -19,9 +19,9 @@ use Rattle.rules.specs.Questions.{Nothing, leftOf, rightOf, meetVisit}
 use Rattle.visits.proofs.Nodes.{GoodRow, good-read}
 use Rattle.visits.proofs.Levels.{none-left, visited, halved}
 use Rattle.row.specs.Stands.{Stands}
-use Rattle.row.specs.Came.{ENDED, endIn, badRow, badSecond, tallyIn, due, cameTo}
-use Rattle.row.proofs.Ends.{reads-even, reads-ended, reads-spent, stops, goes, keeps}
-use Rattle.row.proofs.Dues.{due-stops, reads-bad-due, reads-second-due}
+use Rattle.ends.specs.Came.{ENDED, endIn, badRow, badSecond, tallyIn, due, cameTo}
+use Rattle.ends.proofs.Ends.{reads-even, reads-ended, reads-spent, stops, goes, keeps}
+use Rattle.ends.proofs.Dues.{due-stops, reads-bad-due, reads-second-due}
 use Rattle.row.proofs.Places.{row-small, left-stands, right-stands}
 use Rattle.meet.specs.declared.Step.{Step}
 use Rattle.meet.specs.declared.Step.the-variants.{Finish, Pass, HalveA, HalveB}
@@ -37,15 +37,15 @@ use Rattle.meet.proofs.walk.Kinds as walk-kinds
 use Rattle.meet.proofs.+walk.Lts-walk as walk-lts
 use Rattle.meet.proofs.pair_of.Reads as pair-of-reads
 use Rattle.meet.proofs.visit.Reads as visit-reads
-use Rattle.row.proofs.bad_row_due.Reads as bad-row-due-reads
-use Rattle.row.proofs.bad_second_due.Reads as bad-second-due-reads
-use Rattle.row.proofs.came.Reads as came-reads
+use Rattle.ends.proofs.bad_row_due.Reads as bad-row-due-reads
+use Rattle.ends.proofs.bad_second_due.Reads as bad-second-due-reads
+use Rattle.ends.proofs.came.Reads as came-reads
 use Rattle.row.proofs.good_between.Reads as good-between-reads
 use Rattle.row.proofs.good_from.Reads as good-from-reads
 use Rattle.row.proofs.row_at.Reads as row-at-reads
-use Rattle.row.proofs.stopped.Reads as stopped-reads
-use Rattle.row.proofs.tally_in.Reads as tally-in-reads
-use Rattle.row.proofs.visits_in.Reads as visits-in-reads
+use Rattle.ends.proofs.stopped.Reads as stopped-reads
+use Rattle.ends.proofs.tally_in.Reads as tally-in-reads
+use Rattle.ends.proofs.visits_in.Reads as visits-in-reads
 use Rattle.rules.proofs.Tally.visit.Reads as Tally-visit-reads
 use Rattle.meet.proofs.+walk.{statement}
 use Rattle.meet.proofs.+walk.Tie.{close}

@@ -15,8 +15,8 @@ use Rattle.rules.specs.Tree.{rowAt}
 use Rattle.rules.specs.Rows.{good}
 use Rattle.rules.specs.Walk.{Visit, fresh}
 use Rattle.rules.specs.Questions.{Nothing, root, boxesApart, yesOrNo, meetVisit}
-use Rattle.row.specs.Came.{cameTo}
-use Rattle.row.proofs.Dues.{reads-bad-due, reads-second-due}
+use Rattle.ends.specs.Came.{cameTo}
+use Rattle.ends.proofs.Dues.{reads-bad-due, reads-second-due}
 use Rattle.row.proofs.Places.{root-stands}
 use Rattle.meet.specs.Pairs.{Read}
 use Rattle.meet.proofs.GoodRows.{placed}

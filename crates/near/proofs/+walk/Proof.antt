@@ -20,9 +20,9 @@ use Rattle.rules.specs.Walk.{walk as writtenWalk}
 use Rattle.rules.specs.Questions.{Nothing, leftOf, rightOf, nearVisit}
 use Rattle.visits.proofs.Levels.{none-left, visited, halved}
 use Rattle.line.proofs.Stored.{stored, stored-abs, point-stored, stored-on}
-use Rattle.row.specs.Came.{badRow, due, cameTo}
-use Rattle.row.proofs.Dues.{due-stops, reads-bad-due}
-use Rattle.row.proofs.Ends.{reads-even, reads-ended, reads-spent, reads-bad, stops, goes, keeps}
+use Rattle.ends.specs.Came.{badRow, due, cameTo}
+use Rattle.ends.proofs.Dues.{due-stops, reads-bad-due}
+use Rattle.ends.proofs.Ends.{reads-even, reads-ended, reads-spent, reads-bad, stops, goes, keeps}
 use Rattle.row.proofs.Places.{row-small, split-small, left-stands, right-stands, left-ends, right-ends}
 use Rattle.near.specs.declared.Visited.{Visited}
 use Rattle.near.specs.declared.Visited.the-variants.{Bad, Finish, Pass}
@@ -37,11 +37,11 @@ use Rattle.near.proofs.+walk.Lts-walk as walk-lts
 use Rattle.near.proofs.visit.Reads as visit-reads
 use Rattle.line.proofs.on_sheet.Reads as on-sheet-reads
 use Rattle.line.proofs.point_at.Reads as point-at-reads
-use Rattle.row.proofs.bad_row.Reads as bad-row-reads
-use Rattle.row.proofs.bad_row_due.Reads as bad-row-due-reads
-use Rattle.row.proofs.came.Reads as came-reads
-use Rattle.row.proofs.stopped.Reads as stopped-reads
-use Rattle.row.proofs.visits_in.Reads as visits-in-reads
+use Rattle.ends.proofs.bad_row.Reads as bad-row-reads
+use Rattle.ends.proofs.bad_row_due.Reads as bad-row-due-reads
+use Rattle.ends.proofs.came.Reads as came-reads
+use Rattle.ends.proofs.stopped.Reads as stopped-reads
+use Rattle.ends.proofs.visits_in.Reads as visits-in-reads
 use Rattle.rules.proofs.Tally.visit.Reads as Tally-visit-reads
 use Rattle.near.proofs.+walk.{statement}
 use Rattle.near.proofs.+walk.Tie.{close}

@@ -5,7 +5,7 @@ use lib.IntN.{ℤ}
 use Rattle.whole.specs.Order.{T-true}
 use Rattle.rules.specs.Questions.{nearWalk}
 use Rattle.line.proofs.Stored.{stored, stored-abs}
-use Rattle.row.specs.Came.{cameTo}
+use Rattle.ends.specs.Came.{cameTo}
 use Rattle.near.proofs.Visits.{root-bad}
 use borrow.Author.Needs.{needs}
 use Rattle.near.proofs.ask_any.Statement.{statement}

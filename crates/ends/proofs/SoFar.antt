@@ -9,8 +9,8 @@ use Rattle.rules.specs.declared.Line.{Line}
 use Rattle.rules.specs.declared.Tally.{Tally}
 use Rattle.rules.specs.declared.Next.the-variants.{Left}
 use Rattle.rules.specs.Walk.{next, over}
-use Rattle.row.specs.Came.{came, visitsIn, endIn, ENDED, oddIn, tallyIn, cameTo}
-use Rattle.row.proofs.Ends.{visits-in, next-counts, is-even, is-odd, reads-even, reads-odd}
+use Rattle.ends.specs.Came.{came, visitsIn, endIn, ENDED, oddIn, tallyIn, cameTo}
+use Rattle.ends.proofs.Ends.{visits-in, next-counts, is-even, is-odd, reads-even, reads-odd}
 
 -- the last digit is the count: it flips alone
 pub flips : (r : ℕ) → endIn r < ENDED → bitXor r 1 ≡ came (visitsIn r) (1 - endIn r)

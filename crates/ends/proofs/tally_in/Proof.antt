@@ -2,8 +2,8 @@
 use mathlib.Core.Path.{ap}
 use Prim.Native.Nat.{ℕ}
 use borrow.Author.Needs.{needs}
-use Rattle.row.proofs.tally_in.Statement.{statement}
-use Rattle.row.proofs.tally_in.Tie as tie
+use Rattle.ends.proofs.tally_in.Statement.{statement}
+use Rattle.ends.proofs.tally_in.Tie as tie
 
 visits-in-requires : tie.Need-visits-in-requires
 visits-in-requires c κs = search needs

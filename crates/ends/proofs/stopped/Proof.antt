@@ -2,9 +2,9 @@
 use mathlib.Core.Path.{ap}
 use lib.Dec.{leb}
 use borrow.Author.Needs.{needs}
-use Rattle.row.specs.Came.{ENDED}
-use Rattle.row.proofs.stopped.Statement.{statement}
-use Rattle.row.proofs.stopped.Tie as tie
+use Rattle.ends.specs.Came.{ENDED}
+use Rattle.ends.proofs.stopped.Statement.{statement}
+use Rattle.ends.proofs.stopped.Tie as tie
 
 end-in-requires : tie.Need-end-in-requires
 end-in-requires c κs = search needs

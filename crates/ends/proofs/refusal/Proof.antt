@@ -5,9 +5,9 @@ use Prim.Native.Nat.{_-_}
 use borrow.Author.Needs.{needs}
 use borrow.Author.Tests.{lt-ltb, le-ltb}
 use lib.Dec.{ltb}
-use Rattle.row.specs.Came.{visitsIn, endIn, badRow, badSecond, refusalAt}
-use Rattle.row.proofs.refusal.Statement.{statement}
-use Rattle.row.proofs.refusal.Tie as tie
+use Rattle.ends.specs.Came.{visitsIn, endIn, badRow, badSecond, refusalAt}
+use Rattle.ends.proofs.refusal.Statement.{statement}
+use Rattle.ends.proofs.refusal.Tie as tie
 
 end-in-requires : tie.Need-end-in-requires
 end-in-requires c κs = search needs

@@ -10,8 +10,8 @@ use Rattle.rules.specs.declared.Next.{Next}
 use Rattle.rules.specs.declared.Next.the-variants.{Left, Spent}
 use Rattle.rules.specs.Walk.{next, Visit, refuse, Walked, refused, walk}
 use Rattle.visits.proofs.Levels.{none-left, visited}
-use Rattle.row.specs.Came.{half, came, endIn, ENDED, badRow, badSecond, refusalAt, due, cameTo}
-use Rattle.row.proofs.Ends.{end-in, reads-spent, reads-bad, reads-bad-second}
+use Rattle.ends.specs.Came.{half, came, endIn, ENDED, badRow, badSecond, refusalAt, due, cameTo}
+use Rattle.ends.proofs.Ends.{end-in, reads-spent, reads-bad, reads-bad-second}
 
 pub due-stops : (n : Next) (end : ℕ) → ENDED ≤ end → end < half → leb ENDED (endIn (due n end)) ≡ true
 due-stops (Left v) end big small = ap (leb ENDED) (end-in (v .visits) end small) ∙ le-leb ENDED end big

@@ -3,10 +3,10 @@ use mathlib.Core.Path.{_≡_, sym, _∙_, ap}
 use Rattle.rules.specs.declared.Next.{Next}
 use Rattle.rules.specs.declared.Next.the-variants.{Spent}
 use Rattle.rules.specs.Walk.{next}
-use Rattle.row.specs.Came.{due}
+use Rattle.ends.specs.Came.{due}
 use borrow.Author.Needs.{needs}
-use Rattle.row.proofs.due.Statement.{statement}
-use Rattle.row.proofs.due.Tie as tie
+use Rattle.ends.proofs.due.Statement.{statement}
+use Rattle.ends.proofs.due.Tie as tie
 
 visit-requires : tie.Need-visit-requires
 visit-requires c κs = search needs

@@ -9,10 +9,10 @@ use lib.Dec.{eqb}
 use Rattle.rules.specs.declared.Line.the-variants.{LineA, LineB}
 use Rattle.rules.specs.Reply.{says, refuses, NO, YES}
 use Rattle.rules.specs.Questions.{yesOrNo}
-use Rattle.row.specs.Came.{visitsIn, endIn, cameTo}
-use Rattle.row.proofs.Ends.{is-even, is-odd, is-ended, is-spent, is-bad}
-use Rattle.row.proofs.answer.Statement.{statement}
-use Rattle.row.proofs.answer.Tie as tie
+use Rattle.ends.specs.Came.{visitsIn, endIn, cameTo}
+use Rattle.ends.proofs.Ends.{is-even, is-odd, is-ended, is-spent, is-bad}
+use Rattle.ends.proofs.answer.Statement.{statement}
+use Rattle.ends.proofs.answer.Tie as tie
 
 end-in-requires : tie.Need-end-in-requires
 end-in-requires c κs = search needs

@@ -1,7 +1,7 @@
 -- `flipped` changes the last digit.
-use Rattle.row.proofs.SoFar.{flips}
-use Rattle.row.proofs.flipped.Statement.{statement}
-use Rattle.row.proofs.flipped.Tie as tie
+use Rattle.ends.proofs.SoFar.{flips}
+use Rattle.ends.proofs.flipped.Statement.{statement}
+use Rattle.ends.proofs.flipped.Tie as tie
 
 returns : tie.Need-returns
 returns c = flips (c .args .made) (c .pre)
