@@ -61,10 +61,10 @@ pub _then_ : {A B : Type 0} → A → B → A × B
 a then b = (a, b)
 
 -- the lowest number that has p is none of the k
-none-has : (p : ℕ → Bool) (k : ℕ) → ltb (lowest p 0 k) k ≡ false → (j : ℕ) → j < k → p j ≡ false
+pub none-has : (p : ℕ → Bool) (k : ℕ) → ltb (lowest p 0 k) k ≡ false → (j : ℕ) → j < k → p j ≡ false
 none-has p k e j h = lowest-is p 0 k .before j (omega arith) (omega (arith, ltb-false (lowest p 0 k) k e))
 
-has-none : (p : ℕ → Bool) (k : ℕ) → ((j : ℕ) → j < k → p j ≡ false) → ltb (lowest p 0 k) k ≡ false
+pub has-none : (p : ℕ → Bool) (k : ℕ) → ((j : ℕ) → j < k → p j ≡ false) → ltb (lowest p 0 k) k ≡ false
 has-none p k h =
     let n = lowest p 0 k in
     le-ltb n k (⊎-elim (λ l. l) (λ l. absurd (true≢false (sym (lowest-is p 0 k .found (omega arith)) ∙ h n l))) (≤-or-> k n))

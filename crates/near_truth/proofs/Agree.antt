@@ -117,7 +117,7 @@ module _ (ps qs : List ℤ) (D : ℤ) where
   nearA j = plainNear ps (point qs j) D
 
   -- where each point is near, the lines agree
-  every-agree : ((j : ℕ) → j < pointsOf ps → nearB j ≡ true) → ((j : ℕ) → j < pointsOf qs → nearA j ≡ true) → plainAgree ps qs D ≡ true
+  pub every-agree : ((j : ℕ) → j < pointsOf ps → nearB j ≡ true) → ((j : ℕ) → j < pointsOf qs → nearA j ≡ true) → plainAgree ps qs D ≡ true
   unfolding plainAgree
   every-agree f g =
       yes-T _ (yes-and (everyOf nearB 0 (pointsOf ps)) (everyOf nearA 0 (pointsOf qs))
@@ -125,7 +125,7 @@ module _ (ps qs : List ℤ) (D : ℤ) where
       (everyOf-make nearA 0 (pointsOf qs) (λ j a b. T-true (g j (omega arith)))))
 
   -- and back
-  agree-every : plainAgree ps qs D ≡ true → ((j : ℕ) → j < pointsOf ps → nearB j ≡ true) × ((j : ℕ) → j < pointsOf qs → nearA j ≡ true)
+  pub agree-every : plainAgree ps qs D ≡ true → ((j : ℕ) → j < pointsOf ps → nearB j ≡ true) × ((j : ℕ) → j < pointsOf qs → nearA j ≡ true)
   unfolding plainAgree
   agree-every e =
       let h = and-yes (everyOf nearB 0 (pointsOf ps)) (everyOf nearA 0 (pointsOf qs)) (T-true e) in (
@@ -142,7 +142,7 @@ module _ (ps qs : List ℤ) (D : ℤ) where
   )
 
   -- what asking both ways tells
-  abbrev AgreeTells : Asked → Type 0
+  abbrev pub AgreeTells : Asked → Type 0
   AgreeTells (allNear y) = plainAgree ps qs D ≡ true
   AgreeTells (notNear l i y) = FirstApart ps qs D l i
   AgreeTells unasked = Unit {0}
@@ -190,7 +190,7 @@ module _ (ps t qs t′ : List ℤ) (D : ℤ) (a : ℕ) (held : T (sound ps t)) (
   abbrev checks : List Check
   checks = lengthChecks LineA ps t ++ lengthChecks LineB qs t′ ++ distanceCheck D ∷ []
 
-  agree-tells : firstRefusal checks ≡ none → (y : Tally) → AgreeTells ps qs D (agreeWalk ps t qs t′ D y)
+  pub agree-tells : firstRefusal checks ≡ none → (y : Tally) → AgreeTells ps qs D (agreeWalk ps t qs t′ D y)
   unfolding agreeWalk
   agree-tells e y =
       let rest = lengthChecks LineB qs t′ ++ distanceCheck D ∷ [] in

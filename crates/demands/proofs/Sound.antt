@@ -1,0 +1,142 @@
+-- The four questions, of any sound table: what decides a question (demand 3) and is never wrong about it (demand 2) answers
+-- it. What a truthful reply says beside its word is read off the walk: an answer names no number, and only AGREE's NO a point.
+use mathlib.Core.Path.{_≡_, refl, sym, _∙_, ap}
+use mathlib.Core.Bool.{Bool, true, false, cond}
+use mathlib.Core.List.{List, [], _∷_, _++_}
+use mathlib.Core.Logic.{_⊎_, inl, inr, ⊎-elim, _≢_}
+use mathlib.Core.Option.{Option, none, some}
+use Prim.Native.Nat.{ℕ, _+_, _*_, _-_}
+use native.Mathlib.Nat.{le-refl}
+use lib.Dec.{T}
+use lib.IntN.{ℤ}
+use Rattle.rules.specs.declared.Line.the-variants.{LineA, LineB}
+use Rattle.rules.specs.declared.Point.{Point}
+use Rattle.rules.specs.declared.Refusal.{Refusal}
+use Rattle.rules.specs.Sheet.{segmentsOf}
+use Rattle.rules.specs.Plain.{plainNear, plainMeet, plainOn, plainInside}
+use Rattle.rules.specs.Reply.{Word, YES, NO, INSIDE, OUTSIDE, ON, UNDECIDED, REFUSED, Reply, says, firstRefusal, orRefused}
+use Rattle.rules.specs.Rows.{lengthChecks, distanceCheck, askedCheck, ringCheck}
+use Rattle.rules.specs.Walk.{Walked, ended, over, spent, refused, fresh}
+use Rattle.rules.specs.Questions.{Nothing, yesOrNo, nearWalk, nearReply, meetWalk, meetReply, sideOfRing, inWalk, inReply, Asked, allNear, notNear, unasked, faulted, agreeWalk, agreed, agreeReply}
+use Rattle.rules.specs.Build.{sound}
+use Rattle.visits.specs.Truthful.{SaysOnly}
+use Rattle.visits.proofs.Tests.{never}
+use Rattle.allowance.specs.Decides.{Decides}
+use Rattle.allowance.proofs.Questions.{near-decides, in-decides, meet-decides, agree-decides}
+use Rattle.near_truth.proofs.NearReply.{near-true}
+use Rattle.near_truth.proofs.Agree.{AgreeTells, agree-tells}
+use Rattle.ring_truth.proofs.Truth.{in-true}
+use Rattle.meet_truth.proofs.Truth.{meet-true}
+use Rattle.demands.specs.Answers.{Answers, nearPlain, meetPlain, inPlain, agreePlain}
+use Rattle.demands.proofs.Agreement.{agrees-plain, disagrees-plain}
+
+-- ---------------- what is decided and truthful answers
+
+-- a reply is UNDECIDED, or what plain geometry says after its visits
+abbrev Honest : (ℕ → Reply) → Reply → Type 0
+Honest plain r = (r .word ≡ UNDECIDED) ⊎ (r ≡ plain (r .visits))
+
+-- what is decided, and honest at every allowance, answers: what it needs brings an answer
+answers : {reply plain : ℕ → Reply} {enough : ℕ} → Decides reply enough → ((a : ℕ) → Honest plain (reply a)) → Answers reply plain enough
+answers {reply} {plain} d h = record {
+  needs = d .needs;
+  bounded = d .bounded;
+  given = λ a l. d .given a l ∙ answer-plain;
+  undecided = d .undecided;
+}
+  where
+    found : reply (d .needs) ≡ d .answer
+    found = d .given (d .needs) (le-refl (d .needs))
+
+    answer-plain : d .answer ≡ plain (d .needs)
+    answer-plain =
+        ⊎-elim (λ e. absurd (d .decided (sym (ap (λ r. r .word) found) ∙ e)))
+        (λ e. sym found ∙ e ∙ ap plain (ap (λ r. r .visits) found ∙ d .counted))
+        (h (d .needs))
+
+-- ---------------- NEAR, MEET, IN
+
+-- a reply is a refusal, or its word and its visits
+abbrev Bare : Reply → Type 0
+Bare r = (r .word ≡ REFUSED) ⊎ (r ≡ says (r .word) (r .visits))
+
+yes-or-no-bare : (a : ℕ) (w : Walked Nothing) → Bare (yesOrNo a w)
+yes-or-no-bare a (ended y) = inr refl
+yes-or-no-bare a (over k y) = inr refl
+yes-or-no-bare a spent = inr refl
+yes-or-no-bare a (refused r) = inl refl
+
+side-bare : (a : ℕ) (w : Walked Bool) → Bare (sideOfRing a w)
+side-bare a (ended y) = inr refl
+side-bare a (over true y) = inr refl
+side-bare a (over false y) = inr refl
+side-bare a spent = inr refl
+side-bare a (refused r) = inl refl
+
+-- so is a reply whose checks refuse nothing
+checked-bare : {o : Option Refusal} {r : Reply} → o ≡ none → Bare r → Bare (orRefused o r)
+checked-bare e b = rw e b
+
+-- plain geometry refuses nothing
+yes-no-given : (b : Bool) → cond b YES NO ≢ REFUSED
+yes-no-given true e = never (cc)
+yes-no-given false e = never (cc)
+
+side-given : (on inside : Bool) → cond on ON (cond inside INSIDE OUTSIDE) ≢ REFUSED
+side-given true inside e = never (cc)
+side-given false true e = never (cc)
+side-given false false e = never (cc)
+
+-- a reply that says only w says no more than w
+only-honest : {w : Word} {r : Reply} → w ≢ REFUSED → SaysOnly w r → Bare r → Honest (says w) r
+only-honest {w} {r} given only bare =
+    ⊎-elim inl (λ e. ⊎-elim (λ f. absurd (given (sym e ∙ f))) (λ b. inr (b ∙ ap (λ (u : Word). says u (r .visits)) e)) bare) only
+
+-- NEAR, of any sound table
+pub near-answers : (ps t : List ℤ) (z : Point) (D : ℤ) → T (sound ps t)
+    → firstRefusal (lengthChecks LineA ps t ++ distanceCheck D ∷ askedCheck z ∷ []) ≡ none
+    → Answers (nearReply ps t z D) (nearPlain ps z D) (2 * segmentsOf ps - 1)
+unfolding nearReply
+near-answers ps t z D held e =
+    answers (near-decides ps t z D)
+    (λ a. only-honest (yes-no-given (plainNear ps z D)) (near-true ps t z D a held e)
+    (checked-bare e (yes-or-no-bare a (nearWalk LineA ps t z D (fresh a)))))
+
+-- IN, of any sound table
+pub in-answers : (ps t : List ℤ) (z : Point) → T (sound ps t)
+    → firstRefusal (lengthChecks LineA ps t ++ askedCheck z ∷ ringCheck LineA ps ∷ []) ≡ none
+    → Answers (inReply ps t z) (inPlain ps z) (2 * segmentsOf ps - 1)
+unfolding inReply
+in-answers ps t z held e =
+    answers (in-decides ps t z)
+    (λ a. only-honest (side-given (plainOn ps z) (plainInside ps z)) (in-true ps t z a held e)
+    (checked-bare e (side-bare a (inWalk ps t z (fresh a)))))
+
+module _ (ps t qs t′ : List ℤ) (held : T (sound ps t)) (held′ : T (sound qs t′)) where
+  -- MEET, of any sound tables
+  pub meet-answers : firstRefusal (lengthChecks LineA ps t ++ lengthChecks LineB qs t′) ≡ none
+      → Answers (meetReply ps t qs t′) (meetPlain ps qs) (2 * (segmentsOf ps * segmentsOf qs) - 1)
+  unfolding meetReply
+  meet-answers e =
+      answers (meet-decides ps t qs t′)
+      (λ a. only-honest (yes-no-given (plainMeet ps qs)) (meet-true ps t qs t′ a held held′ e)
+      (checked-bare e (yes-or-no-bare a (meetWalk ps t qs t′ (fresh a)))))
+
+  -- ---------------- AGREE
+
+  module _ (D : ℤ) where
+    -- what asking tells of both lines is what plain geometry says
+    agreed-honest : (a : ℕ) (w : Asked) → AgreeTells ps qs D w → Honest (agreePlain ps qs D) (agreed a w)
+    agreed-honest a (allNear y) h = inr (sym (agrees-plain ps qs D (y .visits) h))
+    agreed-honest a (notNear l i y) h = inr (sym (disagrees-plain ps qs D (y .visits) l i h))
+    agreed-honest a unasked h = inl refl
+    agreed-honest a (faulted r) h = absurd h
+
+    -- AGREE, of any sound tables
+    pub agree-answers : firstRefusal (lengthChecks LineA ps t ++ lengthChecks LineB qs t′ ++ distanceCheck D ∷ []) ≡ none
+        → Answers (agreeReply ps t qs t′ D) (agreePlain ps qs D)
+        ((segmentsOf ps + 1) * (2 * segmentsOf qs - 1) + (segmentsOf qs + 1) * (2 * segmentsOf ps - 1))
+    unfolding agreeReply
+    agree-answers e =
+        answers (agree-decides ps t qs t′ D)
+        (λ a. rw e (agreed-honest a (agreeWalk ps t qs t′ D (fresh a)) (agree-tells ps t qs t′ D a held held′ e (fresh a))))
