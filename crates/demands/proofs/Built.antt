@@ -1,9 +1,9 @@
--- The four questions, of built tables: such a table is sound and passes the checks of lengths, so that only the question's
--- own checks are left.
+-- The four questions, of built tables: such a table is sound and passes the checks of lengths, so that only the
+-- question's own checks are left.
 use mathlib.Core.Path.{_≡_, _∙_}
 use mathlib.Core.List.{List, [], _∷_, _++_}
 use mathlib.Core.Option.{none}
-use Prim.Native.Nat.{ℕ, _+_, _*_, _-_}
+use Prim.Native.Nat.{_+_, _*_, _-_}
 use lib.IntN.{ℤ}
 use Rattle.rules.specs.declared.Line.{Line}
 use Rattle.rules.specs.declared.Line.the-variants.{LineA, LineB}
@@ -42,7 +42,8 @@ module _ (ps t : List ℤ) (built : buildRefusal ps t ≡ none) where
 
   module _ (qs t′ : List ℤ) (built′ : buildRefusal qs t′ ≡ none) where
     -- MEET, of built tables: it has no checks of its own
-    pub meet-built : Answers (meetReply ps (builtTable ps t) qs (builtTable qs t′)) (meetPlain ps qs) (2 * (segmentsOf ps * segmentsOf qs) - 1)
+    pub meet-built : Answers (meetReply ps (builtTable ps t) qs (builtTable qs t′)) (meetPlain ps qs)
+        (2 * (segmentsOf ps * segmentsOf qs) - 1)
     meet-built =
         meet-answers ps (builtTable ps t) qs (builtTable qs t′) (built-sound ps t built) (built-sound qs t′ built′)
         (after-lengths LineA ps t (lengthChecks LineB qs (builtTable qs t′)) built (built-passes LineB qs t′ built′))
@@ -53,5 +54,5 @@ module _ (ps t : List ℤ) (built : buildRefusal ps t ≡ none) where
         ((segmentsOf ps + 1) * (2 * segmentsOf qs - 1) + (segmentsOf qs + 1) * (2 * segmentsOf ps - 1))
     agree-built D e =
         let rest = lengthChecks LineB qs (builtTable qs t′) ++ distanceCheck D ∷ [] in
-        agree-answers ps (builtTable ps t) qs (builtTable qs t′) (built-sound ps t built) (built-sound qs t′ built′) D
+        agree-answers ps (builtTable ps t) qs (builtTable qs t′) D (built-sound ps t built) (built-sound qs t′ built′)
         (after-lengths LineA ps t rest built (after-lengths LineB qs t′ (distanceCheck D ∷ []) built′ e))

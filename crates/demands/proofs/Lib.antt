@@ -1,5 +1,5 @@
--- What was asked for: what plain AGREE says (Agreement), the four questions of any sound table (Sound), of the built one
--- (Built), and of the program (Program).
+-- What was asked for: what plain AGREE says (Agreement), and the four questions, of any sound table (Sound), of the
+-- built one (Built), and of the program (Program).
 pub mod Agreement
 pub mod Sound
 pub mod Built

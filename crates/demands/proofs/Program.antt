@@ -1,5 +1,5 @@
--- The four questions, of the program: at a desk whose lines build, what it says to a text line is what the question's reply
--- of the built tables is.
+-- The four questions, of the program: at a desk whose lines build, what it says to a text line is the reply to the
+-- question, of the built tables.
 use mathlib.Core.Path.{_≡_, sym, _∙_, ap}
 use mathlib.Core.Bool.{cond}
 use mathlib.Core.List.{List, [], _∷_}
@@ -29,29 +29,31 @@ use Rattle.demands.proofs.Built.{near-built, in-built, meet-built, agre
 -- built into a table of its own length, a line's table is all there is
 own-table : (ps : List ℤ) → buildRefusal ps (tableOf ps) ≡ none → builtTable ps (tableOf ps) ≡ tableOf ps
 own-table ps e =
-    sym (take-all (rowNumbers ps) (builtTable ps (tableOf ps)) (omega (arith, built-length ps (tableOf ps), table-length ps (accepted ps (tableOf ps) e .enough))))
-    ∙ built-rows ps (tableOf ps) e
+    let t = tableOf ps in
+    let whole = table-length ps (accepted ps t e .enough) in
+    sym (take-all (rowNumbers ps) (builtTable ps t) (omega (arith, built-length ps t))) ∙ built-rows ps t e
 
 -- the table that a store builds
 abbrev tableIn : Store → List ℤ
 tableIn s = builtTable (s .points) (tableOf (s .points))
 
--- a store that builds is asked with its table
-asked-with : (l : Line) (s : Store) (place : ℕ) (go : List ℤ → Reply) → Builds s → withTable l s place go ≡ go (tableIn s)
+-- of a store that builds the question is asked, with that table
+asked-with : (l : Line) (s : Store) (place : ℕ) (go : List ℤ → Reply) → Builds s
+    → withTable l s place go ≡ go (tableIn s)
 unfolding withTable
 asked-with l s place go b =
     (λ i. cond (b .kept i) (refusedAt 13 l place) (onBuild l (b .unrefused i) (go (tableOf (s .points)))))
     ∙ ap go (sym (own-table (s .points) (b .unrefused)))
 
 module _ (d : Desk) where
-  -- the points of its lines
+  -- the points of A and of B
   abbrev psA : List ℤ
   psA = d .a .points
 
   abbrev psB : List ℤ
   psB = d .b .points
 
-  -- what answers, and is what the program says, is the program's answer
+  -- a reply that answers, and is what the program says, is the program's answer
   program-answers : (asks : ℕ → Record) {reply plain : ℕ → Reply} {enough : ℕ} → Answers reply plain enough
       → ((allowance : ℕ) → turnOf (countText d) (asks allowance) .said ≡ some (reply allowance))
       → ProgramAnswers d asks plain enough
@@ -67,36 +69,35 @@ module _ (d : Desk) where
       turned e = ap (λ r. turnOf (countText d) r .said) e
 
   module _ (a-builds : Builds (d .a)) where
-    -- what is asked of A
-    ofA-said : (go : List ℤ → Reply) → some (ofA (countText d) go) ≡ some (go (tableIn (d .a)))
-    ofA-said go = ap some (asked-with LineA (d .a) (countText d .textLines) go a-builds)
+    of-A : (go : List ℤ → Reply) → ofA (countText d) go ≡ go (tableIn (d .a))
+    of-A go = asked-with LineA (d .a) (countText d .textLines) go a-builds
 
     -- NEAR, of the program
-    pub near-turn : (x y D : ℤ) → firstRefusal (distanceCheck D ∷ askedCheck (record { x = x; y = y }) ∷ []) ≡ none
-        → ProgramAnswers d (Near x y D) (nearPlain psA (record { x = x; y = y }) D) (2 * segmentsOf psA - 1)
-    near-turn x y D e =
-        let z : Point = record { x = x; y = y } in
-        program-answers (Near x y D) (near-built psA (tableOf psA) (a-builds .unrefused) z D e)
-        (λ a. ofA-said (λ t. nearReply psA t z D a))
+    pub near-turn : (z : Point) (D : ℤ) → firstRefusal (distanceCheck D ∷ askedCheck z ∷ []) ≡ none
+        → ProgramAnswers d (Near (z .x) (z .y) D) (nearPlain psA z D) (2 * segmentsOf psA - 1)
+    near-turn z D e =
+        program-answers (Near (z .x) (z .y) D) (near-built psA (tableOf psA) (a-builds .unrefused) z D e)
+        (λ a. ap some (of-A (λ t. nearReply psA t z D a)))
 
     -- IN, of the program
-    pub in-turn : (x y : ℤ) → firstRefusal (askedCheck (record { x = x; y = y }) ∷ ringCheck LineA psA ∷ []) ≡ none
-        → ProgramAnswers d (In x y) (inPlain psA (record { x = x; y = y })) (2 * segmentsOf psA - 1)
-    in-turn x y e =
-        let z : Point = record { x = x; y = y } in
-        program-answers (In x y) (in-built psA (tableOf psA) (a-builds .unrefused) z e) (λ a. ofA-said (λ t. inReply psA t z a))
+    pub in-turn : (z : Point) → firstRefusal (askedCheck z ∷ ringCheck LineA psA ∷ []) ≡ none
+        → ProgramAnswers d (In (z .x) (z .y)) (inPlain psA z) (2 * segmentsOf psA - 1)
+    in-turn z e =
+        program-answers (In (z .x) (z .y)) (in-built psA (tableOf psA) (a-builds .unrefused) z e)
+        (λ a. ap some (of-A (λ t. inReply psA t z a)))
 
     module _ (b-builds : Builds (d .b)) where
-      -- what is asked of both
-      ofBoth-said : (go : List ℤ → List ℤ → Reply) → some (ofBoth (countText d) go) ≡ some (go (tableIn (d .a)) (tableIn (d .b)))
-      ofBoth-said go =
-          ofA-said _ ∙ ap some (asked-with LineB (d .b) (countText d .textLines) (λ t′. go (tableIn (d .a)) t′) b-builds)
+      of-both : (go : List ℤ → List ℤ → Reply) → ofBoth (countText d) go ≡ go (tableIn (d .a)) (tableIn (d .b))
+      of-both go =
+          of-A (λ t. withTable LineB (d .b) (countText d .textLines) (go t))
+          ∙ asked-with LineB (d .b) (countText d .textLines) (go (tableIn (d .a))) b-builds
 
       -- MEET, of the program
       pub meet-turn : ProgramAnswers d Meet (meetPlain psA psB) (2 * (segmentsOf psA * segmentsOf psB) - 1)
       meet-turn =
-          program-answers Meet (meet-built psA (tableOf psA) (a-builds .unrefused) psB (tableOf psB) (b-builds .unrefused))
-          (λ a. ofBoth-said (λ t t′. meetReply psA t psB t′ a))
+          program-answers Meet
+          (meet-built psA (tableOf psA) (a-builds .unrefused) psB (tableOf psB) (b-builds .unrefused))
+          (λ a. ap some (of-both (λ t t′. meetReply psA t psB t′ a)))
 
       -- AGREE, of the program
       pub agree-turn : (D : ℤ) → firstRefusal (distanceCheck D ∷ []) ≡ none
@@ -105,4 +106,4 @@ module _ (d : Desk) where
       agree-turn D e =
           program-answers (Agree D)
           (agree-built psA (tableOf psA) (a-builds .unrefused) psB (tableOf psB) (b-builds .unrefused) D e)
-          (λ a. ofBoth-said (λ t t′. agreeReply psA t psB t′ D a))
+          (λ a. ap some (of-both (λ t t′. agreeReply psA t psB t′ D a)))

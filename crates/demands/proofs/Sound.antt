@@ -1,10 +1,10 @@
--- The four questions, of any sound table: what decides a question (demand 3) and is never wrong about it (demand 2) answers
--- it. What a truthful reply says beside its word is read off the walk: an answer names no number, and only AGREE's NO a point.
+-- The four questions, of any sound table: what decides a question (demand 3) and is never wrong about it (demand 2)
+-- answers it. What a reply says beside its word is read off the walk: only a refusal, and AGREE's NO, say more.
 use mathlib.Core.Path.{_≡_, refl, sym, _∙_, ap}
 use mathlib.Core.Bool.{Bool, true, false, cond}
 use mathlib.Core.List.{List, [], _∷_, _++_}
 use mathlib.Core.Logic.{_⊎_, inl, inr, ⊎-elim, _≢_}
-use mathlib.Core.Option.{Option, none, some}
+use mathlib.Core.Option.{Option, none}
 use Prim.Native.Nat.{ℕ, _+_, _*_, _-_}
 use native.Mathlib.Nat.{le-refl}
 use lib.Dec.{T}
@@ -14,10 +14,13 @@ use Rattle.rules.specs.declared.Point.{Point}
 use Rattle.rules.specs.declared.Refusal.{Refusal}
 use Rattle.rules.specs.Sheet.{segmentsOf}
 use Rattle.rules.specs.Plain.{plainNear, plainMeet, plainOn, plainInside}
-use Rattle.rules.specs.Reply.{Word, YES, NO, INSIDE, OUTSIDE, ON, UNDECIDED, REFUSED, Reply, says, firstRefusal, orRefused}
+use Rattle.rules.specs.Reply.{Word, YES, NO, INSIDE, OUTSIDE, ON, UNDECIDED, REFUSED, Reply, says}
+use Rattle.rules.specs.Reply.{firstRefusal, orRefused}
 use Rattle.rules.specs.Rows.{lengthChecks, distanceCheck, askedCheck, ringCheck}
 use Rattle.rules.specs.Walk.{Walked, ended, over, spent, refused, fresh}
-use Rattle.rules.specs.Questions.{Nothing, yesOrNo, nearWalk, nearReply, meetWalk, meetReply, sideOfRing, inWalk, inReply, Asked, allNear, notNear, unasked, faulted, agreeWalk, agreed, agreeReply}
+use Rattle.rules.specs.Questions.{Nothing, yesOrNo, nearWalk, nearReply, meetWalk, meetReply}
+use Rattle.rules.specs.Questions.{sideOfRing, inWalk, inReply}
+use Rattle.rules.specs.Questions.{Asked, allNear, notNear, unasked, faulted, agreeWalk, agreed, agreeReply}
 use Rattle.rules.specs.Build.{sound}
 use Rattle.visits.specs.Truthful.{SaysOnly}
 use Rattle.visits.proofs.Tests.{never}
@@ -37,7 +40,8 @@ abbrev Honest : (ℕ → Reply) → Reply → Type 0
 Honest plain r = (r .word ≡ UNDECIDED) ⊎ (r ≡ plain (r .visits))
 
 -- what is decided, and honest at every allowance, answers: what it needs brings an answer
-answers : {reply plain : ℕ → Reply} {enough : ℕ} → Decides reply enough → ((a : ℕ) → Honest plain (reply a)) → Answers reply plain enough
+answers : {reply plain : ℕ → Reply} {enough : ℕ} → Decides reply enough → ((a : ℕ) → Honest plain (reply a))
+    → Answers reply plain enough
 answers {reply} {plain} d h = record {
   needs = d .needs;
   bounded = d .bounded;
@@ -90,7 +94,9 @@ side-given false false e = never (cc)
 -- a reply that says only w says no more than w
 only-honest : {w : Word} {r : Reply} → w ≢ REFUSED → SaysOnly w r → Bare r → Honest (says w) r
 only-honest {w} {r} given only bare =
-    ⊎-elim inl (λ e. ⊎-elim (λ f. absurd (given (sym e ∙ f))) (λ b. inr (b ∙ ap (λ (u : Word). says u (r .visits)) e)) bare) only
+    ⊎-elim inl
+    (λ e. ⊎-elim (λ f. absurd (given (sym e ∙ f))) (λ b. inr (b ∙ ap (λ (u : Word). says u (r .visits)) e)) bare)
+    only
 
 -- NEAR, of any sound table
 pub near-answers : (ps t : List ℤ) (z : Point) (D : ℤ) → T (sound ps t)
@@ -112,31 +118,34 @@ in-answers ps t z held e =
     (λ a. only-honest (side-given (plainOn ps z) (plainInside ps z)) (in-true ps t z a held e)
     (checked-bare e (side-bare a (inWalk ps t z (fresh a)))))
 
-module _ (ps t qs t′ : List ℤ) (held : T (sound ps t)) (held′ : T (sound qs t′)) where
-  -- MEET, of any sound tables
-  pub meet-answers : firstRefusal (lengthChecks LineA ps t ++ lengthChecks LineB qs t′) ≡ none
-      → Answers (meetReply ps t qs t′) (meetPlain ps qs) (2 * (segmentsOf ps * segmentsOf qs) - 1)
-  unfolding meetReply
-  meet-answers e =
-      answers (meet-decides ps t qs t′)
-      (λ a. only-honest (yes-no-given (plainMeet ps qs)) (meet-true ps t qs t′ a held held′ e)
-      (checked-bare e (yes-or-no-bare a (meetWalk ps t qs t′ (fresh a)))))
+-- MEET, of any sound tables
+pub meet-answers : (ps t qs t′ : List ℤ) → T (sound ps t) → T (sound qs t′)
+    → firstRefusal (lengthChecks LineA ps t ++ lengthChecks LineB qs t′) ≡ none
+    → Answers (meetReply ps t qs t′) (meetPlain ps qs) (2 * (segmentsOf ps * segmentsOf qs) - 1)
+unfolding meetReply
+meet-answers ps t qs t′ held held′ e =
+    answers (meet-decides ps t qs t′)
+    (λ a. only-honest (yes-no-given (plainMeet ps qs)) (meet-true ps t qs t′ a held held′ e)
+    (checked-bare e (yes-or-no-bare a (meetWalk ps t qs t′ (fresh a)))))
 
-  -- ---------------- AGREE
+-- ---------------- AGREE
 
-  module _ (D : ℤ) where
-    -- what asking tells of both lines is what plain geometry says
-    agreed-honest : (a : ℕ) (w : Asked) → AgreeTells ps qs D w → Honest (agreePlain ps qs D) (agreed a w)
-    agreed-honest a (allNear y) h = inr (sym (agrees-plain ps qs D (y .visits) h))
-    agreed-honest a (notNear l i y) h = inr (sym (disagrees-plain ps qs D (y .visits) l i h))
-    agreed-honest a unasked h = inl refl
-    agreed-honest a (faulted r) h = absurd h
+module _ (ps qs : List ℤ) (D : ℤ) where
+  -- what asking tells of both lines is what plain geometry says
+  agreed-honest : (a : ℕ) (w : Asked) → AgreeTells ps qs D w → Honest (agreePlain ps qs D) (agreed a w)
+  agreed-honest a (allNear y) h = inr (sym (agrees-plain ps qs D (y .visits) h))
+  agreed-honest a (notNear l i y) h = inr (sym (disagrees-plain ps qs D (y .visits) l i h))
+  agreed-honest a unasked h = inl refl
+  agreed-honest a (faulted r) h = absurd h
 
-    -- AGREE, of any sound tables
-    pub agree-answers : firstRefusal (lengthChecks LineA ps t ++ lengthChecks LineB qs t′ ++ distanceCheck D ∷ []) ≡ none
-        → Answers (agreeReply ps t qs t′ D) (agreePlain ps qs D)
-        ((segmentsOf ps + 1) * (2 * segmentsOf qs - 1) + (segmentsOf qs + 1) * (2 * segmentsOf ps - 1))
-    unfolding agreeReply
-    agree-answers e =
-        answers (agree-decides ps t qs t′ D)
-        (λ a. rw e (agreed-honest a (agreeWalk ps t qs t′ D (fresh a)) (agree-tells ps t qs t′ D a held held′ e (fresh a))))
+-- AGREE, of any sound tables: a NO names the lowest point that is not NEAR the other line, of A before B
+pub agree-answers : (ps t qs t′ : List ℤ) (D : ℤ) → T (sound ps t) → T (sound qs t′)
+    → firstRefusal (lengthChecks LineA ps t ++ lengthChecks LineB qs t′ ++ distanceCheck D ∷ []) ≡ none
+    → Answers (agreeReply ps t qs t′ D) (agreePlain ps qs D)
+    ((segmentsOf ps + 1) * (2 * segmentsOf qs - 1) + (segmentsOf qs + 1) * (2 * segmentsOf ps - 1))
+unfolding agreeReply
+agree-answers ps t qs t′ D held held′ e =
+    answers (agree-decides ps t qs t′ D)
+    (λ a.
+    let w = agreeWalk ps t qs t′ D (fresh a) in
+    rw e (agreed-honest ps qs D a w (agree-tells ps t qs t′ D a held held′ e (fresh a))))

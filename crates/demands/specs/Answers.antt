@@ -12,8 +12,8 @@ use Rattle.rules.specs.Plain.{plainNear, plainMeet, plainOn, plainInside}
 use Rattle.rules.specs.Reply.{Reply, YES, NO, INSIDE, OUTSIDE, ON, UNDECIDED, says, disagrees}
 use Rattle.rules.specs.Build.{lowest}
 
--- There is a number of visits, at most `enough`: with at least so many allowed the reply is what plain geometry says, after
--- exactly so many visits; with fewer it is UNDECIDED, with the allowance as its visits.
+-- There is a number of visits, at most `enough`: with at least so many allowed the reply is what plain geometry says,
+-- after exactly so many visits; with fewer it is UNDECIDED, with the allowance as its visits.
 pub record Answers (reply plain : ℕ → Reply) (enough : ℕ) : Type 0 where
   pub needs : ℕ
   pub bounded : needs ≤ enough
