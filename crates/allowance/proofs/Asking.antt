@@ -13,24 +13,25 @@ use Rattle.rules.specs.declared.Tally.{Tally}
 use Rattle.rules.specs.Sheet.{point, pointsOf, segmentsOf, onSheet}
 use Rattle.rules.specs.Walk.{Walked, spent}
 use Rattle.rules.specs.Questions.{root, Nothing, nearWalk, inWalk, meetWalk, Asked, allNear, notNear, unasked, faulted, onNear, askAll, onAllNear, agreeWalk}
+use Rattle.allowance.specs.Enough.{pointEnough, pairEnough, agreeEnough}
 use Rattle.allowance.proofs.Needs.{Needs, Settled, at-once-settled, loosely-settled, read-settled, then-settled}
 use Rattle.allowance.proofs.Walks.{Outcome, hit, through, fault, told, walk-settled}
 use Rattle.allowance.proofs.Visits.{near-halves, in-halves, meet-halves}
 
 -- a NEAR walk is settled by 2n - 1 visits
 pub near-settled : (l : Line) (ps t : List ℤ) (z : Point) (D : ℤ) → 1 ≤ segmentsOf ps
-    → Settled spent told (nearWalk l ps t z D) (2 * segmentsOf ps - 1)
+    → Settled spent told (nearWalk l ps t z D) (pointEnough ps)
 near-settled l ps t z D h =
     loosely-settled (walk-settled (near-halves l ps t z D) (segmentsOf ps) (root ps) tt (omega arith)) (omega arith)
 
 -- an IN walk too
-pub in-settled : (ps t : List ℤ) (z : Point) → 1 ≤ segmentsOf ps → Settled spent told (inWalk ps t z) (2 * segmentsOf ps - 1)
+pub in-settled : (ps t : List ℤ) (z : Point) → 1 ≤ segmentsOf ps → Settled spent told (inWalk ps t z) (pointEnough ps)
 in-settled ps t z h =
     loosely-settled (walk-settled (in-halves ps t z) (segmentsOf ps) (root ps) false (omega arith)) (omega arith)
 
 -- a MEET walk by 2nm - 1
 pub meet-settled : (ps t qs t′ : List ℤ) → 1 ≤ segmentsOf ps → 1 ≤ segmentsOf qs
-    → Settled spent told (meetWalk ps t qs t′) (2 * (segmentsOf ps * segmentsOf qs) - 1)
+    → Settled spent told (meetWalk ps t qs t′) (pairEnough ps qs)
 meet-settled ps t qs t′ h k =
     loosely-settled
     (walk-settled (meet-halves ps t qs t′) (segmentsOf ps + segmentsOf qs) (record { a = root ps; b = root qs }) tt (omega arith))
@@ -66,13 +67,13 @@ cond-settled false w w′ = w′
 
 -- k points against a line of m segments are settled by k*(2m - 1) visits
 ask-settled : (l : Line) (ps : List ℤ) (m : Line) (qs t : List ℤ) (D : ℤ) (i k : ℕ) → 1 ≤ segmentsOf qs
-    → Settled unasked found (askAll l ps m qs t D i k) (k * (2 * segmentsOf qs - 1))
+    → Settled unasked found (askAll l ps m qs t D i k) (k * pointEnough qs)
 unfolding askAll
 ask-settled l ps m qs t D i zero h = at-once-settled everyNear
 ask-settled l ps m qs t D i (suc k) h =
     cond-settled (onSheet (point ps i))
     (loosely-settled (point-settled l i (near-settled m qs t (point ps i) D h) (ask-settled l ps m qs t D (suc i) k h))
-    (omega (arith, suc-mul k (2 * segmentsOf qs - 1))))
+    (omega (arith, suc-mul k (pointEnough qs))))
     (at-once-settled (faulty 8 l i))
 
 -- the second line's points are asked where every one of the first line's is near
@@ -88,13 +89,12 @@ both-asked {go} {rest} {a} {b} w next = join (w .outcome) (w .exact)
 
 -- AGREE is settled by (n + 1)*(2m - 1) + (m + 1)*(2n - 1) visits
 pub agree-settled : (ps t qs t′ : List ℤ) (D : ℤ) → 1 ≤ segmentsOf ps → 1 ≤ segmentsOf qs
-    → Settled unasked found (agreeWalk ps t qs t′ D)
-    ((segmentsOf ps + 1) * (2 * segmentsOf qs - 1) + (segmentsOf qs + 1) * (2 * segmentsOf ps - 1))
+    → Settled unasked found (agreeWalk ps t qs t′ D) (agreeEnough ps qs)
 unfolding agreeWalk
 agree-settled ps t qs t′ D h k =
     loosely-settled
     (both-asked (ask-settled LineA ps LineB qs t′ D 0 (pointsOf ps) k) (ask-settled LineB qs LineA ps t D 0 (pointsOf qs) h))
-    (le-of-eq (λ i. one-more ps h i * (2 * segmentsOf qs - 1) + one-more qs k i * (2 * segmentsOf ps - 1)))
+    (le-of-eq (λ i. one-more ps h i * pointEnough qs + one-more qs k i * pointEnough ps))
   where
     -- points are segments and one
     one-more : (ps : List ℤ) → 1 ≤ segmentsOf ps → pointsOf ps ≡ segmentsOf ps + 1

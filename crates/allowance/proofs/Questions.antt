@@ -3,17 +3,17 @@
 use mathlib.Core.Path.{refl}
 use mathlib.Core.Bool.{Bool, true, false}
 use mathlib.Core.List.{List, [], _∷_, _++_}
-use Prim.Native.Nat.{ℕ, _+_, _*_, _-_}
+use Prim.Native.Nat.{ℕ}
 use lib.IntN.{ℤ}
 use Rattle.rules.specs.declared.Line.{Line}
 use Rattle.rules.specs.declared.Line.the-variants.{LineA, LineB}
 use Rattle.rules.specs.declared.Point.{Point}
-use Rattle.rules.specs.Sheet.{segmentsOf}
 use Rattle.rules.specs.Reply.{YES, NO, INSIDE, OUTSIDE, ON, says, disagrees, refuses}
 use Rattle.rules.specs.Rows.{lengthChecks, distanceCheck, askedCheck, ringCheck}
 use Rattle.rules.specs.Questions.{Nothing, yesOrNo, nearReply, meetReply, sideOfRing, inReply, agreed, agreeReply}
 use Rattle.visits.proofs.Checks.{some-segment, rest-none}
 use Rattle.allowance.specs.Decides.{Decides}
+use Rattle.allowance.specs.Enough.{pointEnough, pairEnough, agreeEnough}
 use Rattle.allowance.proofs.Walks.{Outcome, hit, through, fault, told}
 use Rattle.allowance.proofs.Asking.{near-settled, in-settled, meet-settled, Findings, everyNear, farOff, faulty, found, agree-settled}
 use Rattle.allowance.proofs.Replies.{Speaks, speaks, settled-decides, checked-decides}
@@ -41,7 +41,7 @@ agreed-speaks (faulty number line place) = refused-speaks number line place
 
 -- ---- the questions
 -- NEAR is decided by 2n - 1 visits
-pub near-decides : (ps t : List ℤ) (z : Point) (D : ℤ) → Decides (nearReply ps t z D) (2 * segmentsOf ps - 1)
+pub near-decides : (ps t : List ℤ) (z : Point) (D : ℤ) → Decides (nearReply ps t z D) (pointEnough ps)
 unfolding nearReply
 near-decides ps t z D =
     let rest = distanceCheck D ∷ askedCheck z ∷ [] in
@@ -49,7 +49,7 @@ near-decides ps t z D =
     settled-decides yesOrNo (λ a. refl) yes-or-no-speaks (near-settled LineA ps t z D (some-segment LineA ps t rest e))
 
 -- IN is decided by 2n - 1 visits
-pub in-decides : (ps t : List ℤ) (z : Point) → Decides (inReply ps t z) (2 * segmentsOf ps - 1)
+pub in-decides : (ps t : List ℤ) (z : Point) → Decides (inReply ps t z) (pointEnough ps)
 unfolding inReply
 in-decides ps t z =
     let rest = askedCheck z ∷ ringCheck LineA ps ∷ [] in
@@ -57,7 +57,7 @@ in-decides ps t z =
     settled-decides sideOfRing (λ a. refl) side-speaks (in-settled ps t z (some-segment LineA ps t rest e))
 
 -- MEET is decided by 2nm - 1 visits
-pub meet-decides : (ps t qs t′ : List ℤ) → Decides (meetReply ps t qs t′) (2 * (segmentsOf ps * segmentsOf qs) - 1)
+pub meet-decides : (ps t qs t′ : List ℤ) → Decides (meetReply ps t qs t′) (pairEnough ps qs)
 unfolding meetReply
 meet-decides ps t qs t′ =
     let rest = lengthChecks LineB qs t′ in
@@ -66,9 +66,7 @@ meet-decides ps t qs t′ =
     (meet-settled ps t qs t′ (some-segment LineA ps t rest e) (some-segment LineB qs t′ [] (rest-none LineA ps t rest e)))
 
 -- AGREE is decided by (n + 1)*(2m - 1) + (m + 1)*(2n - 1) visits
-pub agree-decides : (ps t qs t′ : List ℤ) (D : ℤ)
-    → Decides (agreeReply ps t qs t′ D)
-    ((segmentsOf ps + 1) * (2 * segmentsOf qs - 1) + (segmentsOf qs + 1) * (2 * segmentsOf ps - 1))
+pub agree-decides : (ps t qs t′ : List ℤ) (D : ℤ) → Decides (agreeReply ps t qs t′ D) (agreeEnough ps qs)
 unfolding agreeReply
 agree-decides ps t qs t′ D =
     let rest = distanceCheck D ∷ [] in

@@ -1,2 +1,3 @@
--- What it means that the visits decide a question.
+-- What it means that the visits decide a question, and how many are enough.
 pub mod Decides
+pub mod Enough

@@ -4,14 +4,14 @@ use mathlib.Core.Path.{_≡_, sym, _∙_, ap}
 use mathlib.Core.Bool.{cond}
 use mathlib.Core.List.{List, [], _∷_}
 use mathlib.Core.Option.{none, some}
-use Prim.Native.Nat.{ℕ, _+_, _*_, _-_}
+use Prim.Native.Nat.{ℕ}
 use native.Mathlib.Omega.{arith}
 use lib.IntN.{ℤ}
 use lib.Seq.{take-all}
 use Rattle.rules.specs.declared.Line.{Line}
 use Rattle.rules.specs.declared.Line.the-variants.{LineA, LineB}
 use Rattle.rules.specs.declared.Point.{Point}
-use Rattle.rules.specs.Sheet.{segmentsOf}
+use Rattle.allowance.specs.Enough.{pointEnough, pairEnough, agreeEnough}
 use Rattle.rules.specs.Reply.{Reply, firstRefusal}
 use Rattle.rules.specs.Rows.{distanceCheck, askedCheck, ringCheck}
 use Rattle.rules.specs.Questions.{nearReply, meetReply, inReply, agreeReply}
@@ -74,14 +74,14 @@ module _ (d : Desk) where
 
     -- NEAR, of the program
     pub near-turn : (z : Point) (D : ℤ) → firstRefusal (distanceCheck D ∷ askedCheck z ∷ []) ≡ none
-        → ProgramAnswers d (Near (z .x) (z .y) D) (nearPlain psA z D) (2 * segmentsOf psA - 1)
+        → ProgramAnswers d (Near (z .x) (z .y) D) (nearPlain psA z D) (pointEnough psA)
     near-turn z D e =
         program-answers (Near (z .x) (z .y) D) (near-built psA (tableOf psA) (a-builds .unrefused) z D e)
         (λ a. ap some (of-A (λ t. nearReply psA t z D a)))
 
     -- IN, of the program
     pub in-turn : (z : Point) → firstRefusal (askedCheck z ∷ ringCheck LineA psA ∷ []) ≡ none
-        → ProgramAnswers d (In (z .x) (z .y)) (inPlain psA z) (2 * segmentsOf psA - 1)
+        → ProgramAnswers d (In (z .x) (z .y)) (inPlain psA z) (pointEnough psA)
     in-turn z e =
         program-answers (In (z .x) (z .y)) (in-built psA (tableOf psA) (a-builds .unrefused) z e)
         (λ a. ap some (of-A (λ t. inReply psA t z a)))
@@ -93,7 +93,7 @@ module _ (d : Desk) where
           ∙ asked-with LineB (d .b) (countText d .textLines) (go (tableIn (d .a))) b-builds
 
       -- MEET, of the program
-      pub meet-turn : ProgramAnswers d Meet (meetPlain psA psB) (2 * (segmentsOf psA * segmentsOf psB) - 1)
+      pub meet-turn : ProgramAnswers d Meet (meetPlain psA psB) (pairEnough psA psB)
       meet-turn =
           program-answers Meet
           (meet-built psA (tableOf psA) (a-builds .unrefused) psB (tableOf psB) (b-builds .unrefused))
@@ -101,8 +101,7 @@ module _ (d : Desk) where
 
       -- AGREE, of the program
       pub agree-turn : (D : ℤ) → firstRefusal (distanceCheck D ∷ []) ≡ none
-          → ProgramAnswers d (Agree D) (agreePlain psA psB D)
-          ((segmentsOf psA + 1) * (2 * segmentsOf psB - 1) + (segmentsOf psB + 1) * (2 * segmentsOf psA - 1))
+          → ProgramAnswers d (Agree D) (agreePlain psA psB D) (agreeEnough psA psB)
       agree-turn D e =
           program-answers (Agree D)
           (agree-built psA (tableOf psA) (a-builds .unrefused) psB (tableOf psB) (b-builds .unrefused) D e)

@@ -5,14 +5,14 @@ use mathlib.Core.Bool.{Bool, true, false, cond}
 use mathlib.Core.List.{List, [], _∷_, _++_}
 use mathlib.Core.Logic.{_⊎_, inl, inr, ⊎-elim, _≢_}
 use mathlib.Core.Option.{Option, none}
-use Prim.Native.Nat.{ℕ, _+_, _*_, _-_}
+use Prim.Native.Nat.{ℕ}
 use native.Mathlib.Nat.{le-refl}
 use lib.Dec.{T}
 use lib.IntN.{ℤ}
 use Rattle.rules.specs.declared.Line.the-variants.{LineA, LineB}
 use Rattle.rules.specs.declared.Point.{Point}
 use Rattle.rules.specs.declared.Refusal.{Refusal}
-use Rattle.rules.specs.Sheet.{segmentsOf}
+use Rattle.allowance.specs.Enough.{pointEnough, pairEnough, agreeEnough}
 use Rattle.rules.specs.Plain.{plainNear, plainMeet, plainOn, plainInside}
 use Rattle.rules.specs.Reply.{Word, YES, NO, INSIDE, OUTSIDE, ON, UNDECIDED, REFUSED, Reply, says}
 use Rattle.rules.specs.Reply.{firstRefusal, orRefused}
@@ -101,7 +101,7 @@ only-honest {w} {r} given only bare =
 -- NEAR, of any sound table
 pub near-answers : (ps t : List ℤ) (z : Point) (D : ℤ) → T (sound ps t)
     → firstRefusal (lengthChecks LineA ps t ++ distanceCheck D ∷ askedCheck z ∷ []) ≡ none
-    → Answers (nearReply ps t z D) (nearPlain ps z D) (2 * segmentsOf ps - 1)
+    → Answers (nearReply ps t z D) (nearPlain ps z D) (pointEnough ps)
 unfolding nearReply
 near-answers ps t z D held e =
     answers (near-decides ps t z D)
@@ -111,7 +111,7 @@ near-answers ps t z D held e =
 -- IN, of any sound table
 pub in-answers : (ps t : List ℤ) (z : Point) → T (sound ps t)
     → firstRefusal (lengthChecks LineA ps t ++ askedCheck z ∷ ringCheck LineA ps ∷ []) ≡ none
-    → Answers (inReply ps t z) (inPlain ps z) (2 * segmentsOf ps - 1)
+    → Answers (inReply ps t z) (inPlain ps z) (pointEnough ps)
 unfolding inReply
 in-answers ps t z held e =
     answers (in-decides ps t z)
@@ -121,7 +121,7 @@ in-answers ps t z held e =
 -- MEET, of any sound tables
 pub meet-answers : (ps t qs t′ : List ℤ) → T (sound ps t) → T (sound qs t′)
     → firstRefusal (lengthChecks LineA ps t ++ lengthChecks LineB qs t′) ≡ none
-    → Answers (meetReply ps t qs t′) (meetPlain ps qs) (2 * (segmentsOf ps * segmentsOf qs) - 1)
+    → Answers (meetReply ps t qs t′) (meetPlain ps qs) (pairEnough ps qs)
 unfolding meetReply
 meet-answers ps t qs t′ held held′ e =
     answers (meet-decides ps t qs t′)
@@ -141,8 +141,7 @@ module _ (ps qs : List ℤ) (D : ℤ) where
 -- AGREE, of any sound tables: a NO names the lowest point that is not NEAR the other line, of A before B
 pub agree-answers : (ps t qs t′ : List ℤ) (D : ℤ) → T (sound ps t) → T (sound qs t′)
     → firstRefusal (lengthChecks LineA ps t ++ lengthChecks LineB qs t′ ++ distanceCheck D ∷ []) ≡ none
-    → Answers (agreeReply ps t qs t′ D) (agreePlain ps qs D)
-    ((segmentsOf ps + 1) * (2 * segmentsOf qs - 1) + (segmentsOf qs + 1) * (2 * segmentsOf ps - 1))
+    → Answers (agreeReply ps t qs t′ D) (agreePlain ps qs D) (agreeEnough ps qs)
 unfolding agreeReply
 agree-answers ps t qs t′ D held held′ e =
     answers (agree-decides ps t qs t′ D)
