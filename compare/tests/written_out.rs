@@ -1,0 +1,221 @@
+//! What document 01 says, written out number by number where definition, code and second reading could err alike: which
+//! of two reasons to refuse is told, and what a strip dismisses. `compare` asks both readings each time.
+
+use compare::{agree, inside, meet, Lent};
+use kneukelboom::lent::{line, word, Reply};
+
+const L: [i32; 6] = [0, 0, 4, 3, 8, 0];
+
+fn says(word: u32, visits: u32) -> Reply {
+    Reply {
+        word,
+        visits,
+        number: 0,
+        line: line::NO_LINE,
+        place: 0,
+    }
+}
+
+fn refused(number: u32, line: u32, place: u64, visits: u32) -> Reply {
+    Reply {
+        number,
+        line,
+        place,
+        ..says(word::REFUSED, visits)
+    }
+}
+
+/// Lines that are refused for their lengths, each with its number: the first of 1, 2, 3, 6 that holds.
+fn unfit() -> Vec<(u32, Lent)> {
+    let lent = |points: &[i32], numbers: usize| Lent {
+        points: points.to_vec(),
+        table: vec![0; numbers],
+    };
+    vec![
+        (1, lent(&[5], 0)),                 // odd, no point, no table
+        (1, lent(&[0, 0, 4, 3, 8], 0)),     // odd, and no table
+        (1, lent(&vec![0; 8_197], 0)),      // odd, 4,098 points, and no table
+        (2, lent(&[], 0)),                  // no point, no table
+        (2, lent(&[5, 5], 0)),              // one point, no table
+        (3, lent(&vec![0; 8_196], 0)),      // 4,098 points, and no table
+        (3, lent(&vec![0; 8_196], 9)),      // the same with too short a table
+        (6, lent(&L, 0)),                   // no table
+        (6, lent(&L, 32)),                  // one number short
+        (2, lent(&[5, 5], 99)),             // one point
+        (3, lent(&vec![0; 8_196], 90_200)), // 4,098 points
+    ]
+}
+
+/// Lines of which the root row is bad, with the reason: each that document 01 names.
+fn bad_roots() -> Vec<(&'static str, Lent)> {
+    let row_of_l = |k: usize, value: i32| {
+        let mut line = Lent::built(&L);
+        line.table[k] = value;
+        line
+    };
+    let moved = |line: &[i32], points: &[i32]| Lent {
+        points: points.to_vec(),
+        ..Lent::built(line)
+    };
+    let mut leaf = Lent::built(&[0, 0, 4, 3]);
+    leaf.table[2] = 0;
+    vec![
+        ("first is not 0", row_of_l(0, 1)),
+        ("last is not 2", row_of_l(1, 1)),
+        ("a leaf's split is not -1", leaf),
+        ("split is -1 for two segments", row_of_l(2, -1)),
+        ("split is first", row_of_l(2, 0)),
+        ("split is last", row_of_l(2, 2)),
+        ("cmin above 0", row_of_l(3, 1)),
+        ("cmax below 0", row_of_l(4, -1)),
+        ("tmin above 0", row_of_l(5, 1)),
+        ("tmax below 0", row_of_l(6, -1)),
+        ("x reversed", row_of_l(7, 9)),
+        ("y reversed", row_of_l(9, 4)),
+        ("xmin off the sheet", row_of_l(7, -16_384)),
+        ("xmax off the sheet", row_of_l(8, 16_384)),
+        ("ymin off the sheet", row_of_l(9, -16_384)),
+        ("ymax off the sheet", row_of_l(10, 16_384)),
+        ("first off the sheet", moved(&L, &[16_384, 0, 4, 3, 8, 0])),
+        ("last off the sheet", moved(&L, &[0, 0, 4, 3, 8, -16_384])),
+        ("a leaf's points equal", moved(&[0, 0, 4, 3], &[4, 3, 4, 3])),
+    ]
+}
+
+/// The table with the range of that row made wrong.
+fn bad_at(points: &[i32], row: usize) -> Lent {
+    let mut line = Lent::built(points);
+    line.table[11 * row] += 1;
+    line
+}
+
+#[test]
+fn meet_checks_a_wholly_before_b() {
+    let (sound, bad_root) = (Lent::built(&L), bad_at(&L, 0));
+    for allowance in [0, 9] {
+        for (number, a) in &unfit() {
+            let of_a = refused(*number, line::LINE_A, 0, 0);
+            for (_, b) in &unfit() {
+                assert_eq!(meet(a, b, allowance), of_a);
+            }
+            assert_eq!(meet(a, &sound, allowance), of_a);
+            assert_eq!(meet(a, &bad_root, allowance), of_a);
+        }
+        for (number, b) in &unfit() {
+            let of_b = refused(*number, line::LINE_B, 0, 0);
+            assert_eq!(meet(&sound, b, allowance), of_b);
+            // lengths before any row
+            assert_eq!(meet(&bad_root, b, allowance), of_b);
+        }
+    }
+}
+
+#[test]
+fn agree_checks_b_before_the_distance() {
+    let (sound, bad_root) = (Lent::built(&L), bad_at(&L, 0));
+    let mut off = Lent::built(&L);
+    off.points[0] = 16_384;
+    for d in [-1, 32_768, i32::MIN, i32::MAX, 0, 32_767] {
+        for (number, a) in &unfit() {
+            for (_, b) in &unfit() {
+                assert_eq!(agree(a, b, d, 9), refused(*number, line::LINE_A, 0, 0));
+            }
+        }
+        for (number, b) in &unfit() {
+            for a in [&sound, &bad_root, &off] {
+                assert_eq!(agree(a, b, d, 9), refused(*number, line::LINE_B, 0, 0));
+            }
+        }
+    }
+    // 7 with no line, before a point or a row is looked at and before a visit is due
+    for d in [-1, 32_768, i32::MIN, i32::MAX] {
+        for a in [&sound, &bad_root, &off] {
+            for b in [&sound, &bad_root, &off] {
+                assert_eq!(agree(a, b, d, 0), refused(7, line::NO_LINE, 0, 0));
+            }
+        }
+    }
+    // then 8 of A's point 0, before its walk; then B's row, as A's points are asked of B first
+    assert_eq!(agree(&off, &bad_root, 2, 0), refused(8, line::LINE_A, 0, 0));
+    assert_eq!(
+        agree(&bad_root, &bad_root, 2, 9),
+        refused(10, line::LINE_B, 0, 1)
+    );
+}
+
+#[test]
+fn meet_reads_a_before_b() {
+    let sound = Lent::built(&L);
+    let (of_a, of_b) = (
+        refused(10, line::LINE_A, 0, 1),
+        refused(10, line::LINE_B, 0, 1),
+    );
+    for (why, bad) in &bad_roots() {
+        for (also, other) in &bad_roots() {
+            assert_eq!(meet(bad, other, 0), says(word::UNDECIDED, 0));
+            assert_eq!(meet(bad, other, 1), of_a, "A: {why}; B: {also}");
+        }
+        assert_eq!(meet(bad, &sound, 1), of_a, "A: {why}");
+        assert_eq!(meet(&sound, bad, 1), of_b, "B: {why}");
+    }
+    // B's second segment crosses A's first: the pairs of rows are 0 0, 1 0, 1 1, 1 2, and the last says yes.
+    let crossing = [5, 0, 4, 1, 0, 2];
+    let b = Lent::built(&crossing);
+    let (a1, a2) = (bad_at(&L, 1), bad_at(&L, 2));
+    let (b0, b1, b2) = (
+        bad_at(&crossing, 0),
+        bad_at(&crossing, 1),
+        bad_at(&crossing, 2),
+    );
+    assert_eq!(meet(&sound, &b, 9), says(word::YES, 4));
+    assert_eq!(meet(&a1, &b, 9), refused(10, line::LINE_A, 1, 2));
+    assert_eq!(meet(&a2, &b, 9), says(word::YES, 4));
+    assert_eq!(meet(&sound, &b1, 9), refused(10, line::LINE_B, 1, 3));
+    assert_eq!(meet(&sound, &b2, 9), refused(10, line::LINE_B, 2, 4));
+    assert_eq!(meet(&a1, &b0, 9), refused(10, line::LINE_B, 0, 1));
+    assert_eq!(meet(&a1, &b1, 9), refused(10, line::LINE_A, 1, 2));
+    assert_eq!(meet(&a2, &b1, 9), refused(10, line::LINE_B, 1, 3));
+    assert_eq!(meet(&a1, &b1, 1), says(word::UNDECIDED, 1));
+}
+
+/// Three sides of a diamond: u is (1, 1), c is y - x and -2 to 0, t is x + y and 0 to 2, the box is 0 to 2 by -1 to 1.
+/// Each corner of the box lies outside another side of the strip.
+const DIAMOND: [i32; 8] = [0, 0, 1, -1, 2, 0, 1, 1];
+
+#[test]
+fn meet_asks_both_strips_by_c_and_by_t() {
+    let diamond = Lent::built(&DIAMOND);
+    // Each stands on a corner of the box: it is dismissed at once by that side of the strip, and by nothing else.
+    for beyond in [
+        [2, -2, 2, -1], // c is -4 to -3, below -2; t is 0 to 1
+        [0, 1, 0, 2],   // c is 1 to 2, above 0; t is 1 to 2
+        [0, -2, 0, -1], // t is -2 to -1, below 0; c is -2 to -1
+        [2, 1, 2, 2],   // t is 3 to 4, above 2; c is -1 to 0
+    ] {
+        let beyond = Lent::built(&beyond);
+        assert_eq!(meet(&diamond, &beyond, 9), says(word::NO, 1));
+        assert_eq!(meet(&beyond, &diamond, 9), says(word::NO, 1));
+    }
+}
+
+/// The root splits at point 2. Points 0 to 2: c is 2y - 2x and -6 to 0, t is 2x + 2y and 0 to 10, the box the ring's.
+/// Points 2 to 4: c is 2x - 2y and 0 to 4, t is 8 - 2x - 2y and 0 to 8, the box 0 to 3 by 0 to 2.
+const DENTED: [i32; 10] = [0, 0, 4, 1, 2, 2, 3, 1, 0, 0];
+
+#[test]
+fn in_asks_t() {
+    let ring = Lent::built(&DENTED);
+    // t is 12, above 10, and c is -4; right of the other box
+    assert_eq!(inside(&ring, 4, 2, 9), says(word::OUTSIDE, 3));
+    // t is 10, and c is -2: two leaves; t is -2, below 0, and c is 2
+    assert_eq!(inside(&ring, 3, 2, 9), says(word::OUTSIDE, 5));
+}
+
+#[test]
+fn in_asks_c() {
+    let ring = Lent::built(&DENTED);
+    // c is -8, below -6, and t is 8; right of the other box
+    assert_eq!(inside(&ring, 4, 0, 9), says(word::OUTSIDE, 3));
+    // c is -6, and t is 6: two leaves; c is 6, above 4, and t is 2
+    assert_eq!(inside(&ring, 3, 0, 9), says(word::OUTSIDE, 5));
+}
