@@ -103,3 +103,19 @@ plateau = pos 0 ∷ pos 0 ∷ pos 1 ∷ pos 2 ∷ pos 2 ∷ pos 2 ∷ pos 3 ∷ 
 pub ties-go-to-the-middle-then-low : splitOf plateau 0 5 ≡ 2
 unfolding splitOf best better height direction
 ties-go-to-the-middle-then-low = refl
+
+-- where first and last point are equal, u = (1, 0): of a ring that is wider than high, c is y - 1 and t is x - 1
+abbrev T : List ℤ
+T = pos 1 ∷ pos 1 ∷ pos 6 ∷ pos 3 ∷ pos 3 ∷ pos 4 ∷ pos 1 ∷ pos 1 ∷ []
+
+pub closed-run-heads-along-x :
+    (tableOf T
+    ≡ pos 0 ∷ pos 3 ∷ pos 2 ∷ pos 0 ∷ pos 3 ∷ pos 0 ∷ pos 5 ∷ pos 1 ∷ pos 6 ∷ pos 1 ∷ pos 4
+    ∷ pos 0 ∷ pos 2 ∷ pos 1 ∷ negsuc 10 ∷ pos 0 ∷ pos 0 ∷ pos 16 ∷ pos 1 ∷ pos 6 ∷ pos 1 ∷ pos 4
+    ∷ pos 0 ∷ pos 1 ∷ negsuc 0 ∷ pos 0 ∷ pos 0 ∷ pos 0 ∷ pos 29 ∷ pos 1 ∷ pos 6 ∷ pos 1 ∷ pos 3
+    ∷ pos 1 ∷ pos 2 ∷ negsuc 0 ∷ pos 0 ∷ pos 0 ∷ pos 0 ∷ pos 10 ∷ pos 3 ∷ pos 6 ∷ pos 3 ∷ pos 4
+    ∷ pos 2 ∷ pos 3 ∷ negsuc 0 ∷ pos 0 ∷ pos 0 ∷ pos 0 ∷ pos 13 ∷ pos 1 ∷ pos 3 ∷ pos 1 ∷ pos 4 ∷ [])
+    × (inReply T (tableOf T) (at 5 2) 99 ≡ says OUTSIDE 5)
+unfolding tableOf rowsOf measured splitOf best better height least greatest rowAt direction between onSegment crosses
+    walk good clearOf inVisit inReply
+closed-run-heads-along-x = (refl, refl)
