@@ -16,7 +16,7 @@ use Rattle.rules.specs.Reply.{Reply, YES, NO, INSIDE, OUTSIDE, ON, UNDEC
 use Rattle.rules.specs.Walk.{walk}
 use Rattle.rules.specs.Rows.{good}
 use Rattle.rules.specs.Questions.{shortfall, farFrom, nearVisit, nearReply, beyondCorners, apart, meetVisit, meetReply, clearOf, inVisit, inReply, askAll, agreeWalk, agreeReply}
-use Rattle.rules.specs.Build.{lowest, buildRefusal, tableOf, holdsPoint, holdsRun, soundFrom, sound}
+use Rattle.rules.specs.Build.{lowest, buildRefusal, tableOf, builtTable}
 
 abbrev at : ℕ → ℕ → Point
 at x y = record { x = pos x; y = pos y }
@@ -119,3 +119,14 @@ pub closed-run-heads-along-x :
 unfolding tableOf rowsOf measured splitOf best better height least greatest rowAt direction between onSegment crosses
     walk good clearOf inVisit inReply
 closed-run-heads-along-x = (refl, refl)
+
+-- building writes the rows of the line and leaves what stands past them; refused, for a table one number short, it writes nothing
+abbrev ten : List ℤ
+ten = pos 7 ∷ pos 7 ∷ pos 7 ∷ pos 7 ∷ pos 7 ∷ pos 7 ∷ pos 7 ∷ pos 7 ∷ pos 7 ∷ pos 7 ∷ []
+
+pub builds-all-or-nothing :
+    (builtTable N (pos 7 ∷ pos 7 ∷ ten)
+    ≡ pos 0 ∷ pos 1 ∷ negsuc 0 ∷ pos 0 ∷ pos 0 ∷ pos 0 ∷ pos 9 ∷ pos 4 ∷ pos 4 ∷ pos 0 ∷ pos 3 ∷ pos 7 ∷ [])
+    × (builtTable N ten ≡ ten)
+unfolding builtTable buildRefusal lowest tableOf rowsOf measured splitOf best better height least greatest direction between
+builds-all-or-nothing = (refl, refl)

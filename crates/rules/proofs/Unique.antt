@@ -14,7 +14,7 @@ use Rattle.rules.specs.declared.Agreement.the-variants as agreement
 use Rattle.rules.specs.Reply.{Word, YES, NO, INSIDE, OUTSIDE, ON, UNDECIDED, REFUSED, Reply, builtRefusal, answerReply, sideReply, agreementReply}
 
 -- what can be read back is said by one value alone
-said-once : {A B : Type 0} (say : A → B) (back : B → A) → ((a : A) → back (say a) ≡ a) → (a b : A) → say a ≡ say b → a ≡ b
+pub said-once : {A B : Type 0} (say : A → B) (back : B → A) → ((a : A) → back (say a) ≡ a) → (a b : A) → say a ≡ say b → a ≡ b
 said-once say back law a b e = sym (law a) ∙ ap back e ∙ law b
 
 refusalIn : Reply → Refusal
