@@ -1,0 +1,65 @@
+-- The first check that holds is the refusal that is told: one theorem over lists of checks, read at the build and at
+-- any reply that checks come before.
+use mathlib.Core.Path.{_≡_, refl, sym, _∙_, ap}
+use mathlib.Core.Bool.{Bool, true, false, cond}
+use mathlib.Core.List.{List, [], _∷_}
+use mathlib.Core.Logic.{_↔_, _≢_}
+use mathlib.Core.Option.{Option, none, some}
+use Prim.Native.Nat.{ℕ}
+use lib.IntN.{ℤ}
+use Rattle.rules.specs.declared.Refusal.{Refusal}
+use Rattle.rules.specs.Reply.{Reply, Check, early, firstRefusal, orRefused, refuses}
+use Rattle.rules.specs.Build.{buildRefusal}
+use Rattle.visits.proofs.Checks.{clear-none, orElse, first-append}
+use Rattle.visits.proofs.Tests.{never}
+use Rattle.refusals.specs.Reason.{Reason, buildChecks}
+
+first-reason : (ks : List Check) (f : Refusal) → firstRefusal ks ≡ some f → Reason ks f
+first-reason [] f e = never (cc)
+first-reason (k ∷ ks) f e = go (k .holds) refl e (first-reason ks f)
+  where
+    go : (b : Bool) → k .holds ≡ b → cond b (some (early k)) (firstRefusal ks) ≡ some f
+        → (firstRefusal ks ≡ some f → Reason ks f) → Reason (k ∷ ks) f
+    go true h e ih = record { earlier = []; check = k; later = ks; parts = refl; clear = tt; holds = h; told = cc }
+    go false h e ih =
+        let r = ih e in record {
+          earlier = k ∷ r .earlier;
+          check = r .check;
+          later = r .later;
+          parts = ap (k ∷_) (r .parts);
+          clear = (h, r .clear);
+          holds = r .holds;
+          told = r .told;
+        }
+
+reason-first : (ks : List Check) (f : Refusal) → Reason ks f → firstRefusal ks ≡ some f
+reason-first ks f r =
+    ap firstRefusal (r .parts) ∙ first-append (r .earlier) (r .check ∷ r .later)
+    ∙ ap (λ (o : Option Refusal). orElse o (firstRefusal (r .check ∷ r .later))) (clear-none (r .earlier) (r .clear))
+    ∙ ap (λ (b : Bool). cond b (some (early (r .check))) (firstRefusal (r .later))) (r .holds) ∙ ap some (sym (r .told))
+
+-- a list of checks refuses exactly with the first check that holds
+pub first-exactly : (ks : List Check) (f : Refusal) → (firstRefusal ks ≡ some f) ↔ Reason ks f
+first-exactly ks f = (first-reason ks f, reason-first ks f)
+
+-- building refuses exactly with the first of its checks that holds
+pub build-exactly : (ps t : List ℤ) (f : Refusal) → (buildRefusal ps t ≡ some f) ↔ Reason (buildChecks ps t) f
+unfolding buildRefusal
+build-exactly ps t f = first-exactly (buildChecks ps t) f
+
+module _ (ks : List Check) (r : Reply) where
+  -- a check's reason makes the reply
+  pub reason-refuses : (f : Refusal) → Reason ks f → orRefused (firstRefusal ks) r ≡ refuses f
+  reason-refuses f h = ap (λ (o : Option Refusal). orRefused o r) (reason-first ks f h)
+
+  -- where what comes after the checks does not have the number k, the reply has it exactly if the first check that
+  -- holds has it
+  pub number-exactly : (k : ℕ) → (firstRefusal ks ≡ none → r .number ≢ k)
+      → (orRefused (firstRefusal ks) r .number ≡ k) ↔ ((f : Refusal) × Reason ks f × (f .number ≡ k))
+  number-exactly k late =
+      (go (firstRefusal ks) refl, λ h. ap (λ (q : Reply). q .number) (reason-refuses (h .0) (h .1)) ∙ h .2)
+    where
+      go : (o : Option Refusal) → firstRefusal ks ≡ o → orRefused o r .number ≡ k
+          → (f : Refusal) × Reason ks f × (f .number ≡ k)
+      go none e h = absurd (late e h)
+      go (some f) e h = (f, first-reason ks f e, h)

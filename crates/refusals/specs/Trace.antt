@@ -1,0 +1,60 @@
+-- The nodes that a walk visits, in the order of the visits: the way of the walk, with the nodes kept. And where in
+-- them a refused walk stops.
+use mathlib.Core.Path.{_≡_}
+use mathlib.Core.List.{List, [], _∷_, _++_}
+use Prim.Native.Nat.{ℕ, zero, suc, _+_}
+use lib.ListN.{length}
+use Rattle.rules.specs.declared.Next.{Next}
+use Rattle.rules.specs.declared.Next.the-variants.{Left, Spent}
+use Rattle.rules.specs.declared.Refusal.{Refusal}
+use Rattle.rules.specs.declared.Tally.{Tally}
+use Rattle.rules.specs.Walk.{next, Visit, refuse, finish, pass, halve, Walked, ended, over, spent, refused, walk}
+
+-- none where a visit is due and none is left
+abbrev pub nodesLeft : {N : Type 0} → Next → (Tally → List N) → List N
+nodesLeft (Left y) go = go y
+nodesLeft Spent go = []
+
+-- those of the halves, where the visit halves
+abbrev pub nodesHalved : {S N : Type 0} → Visit S N → (N → N → List N) → List N
+nodesHalved (refuse number line place) go = []
+nodesHalved finish go = []
+nodesHalved (pass f) go = []
+nodesHalved (halve l r) go = go l r
+
+-- those of the left half, and then, where its walk is over, those of the right half
+abbrev pub nodesOfBoth : {S N : Type 0} → List N → Walked S → (S → Tally → List N) → List N
+nodesOfBoth left (ended y) go = left
+nodesOfBoth left (over s y) go = left ++ go s y
+nodesOfBoth left spent go = left
+nodesOfBoth left (refused r) go = left
+
+module _ {S N : Type 0} where
+  -- the nodes that a walk visits
+  unfoldable pub visitsOf : (N → Visit S N) → ℕ → N → S → Tally → List N
+  visitsOf visit zero n s y = []
+  visitsOf visit (suc levels) n s y =
+      nodesLeft (next y) λ v.
+      n ∷ nodesHalved (visit n) λ l r.
+      nodesOfBoth (visitsOf visit levels l s v) (walk visit levels l s v) (λ s′ v′. visitsOf visit levels r s′ v′)
+
+  -- a visit does not refuse
+  abbrev pub Accepts : Visit S N → Type 0
+  Accepts (refuse number line place) = ⊥
+  Accepts finish = Unit {0}
+  Accepts (pass f) = Unit {0}
+  Accepts (halve l r) = Unit {0}
+
+-- each of a list has P
+abbrev pub Each : {N : Type 0} → (N → Type 0) → List N → Type 0
+Each P [] = Unit {0}
+Each P (n ∷ ns) = P n × Each P ns
+
+-- of the nodes that are visited from tally y on, the last one's visit refuses and no other does; each visit is counted
+pub record RefusedLast {S N : Type 0} (visit : N → Visit S N) (nodes : List N) (y : Tally) (r : Refusal) : Type 0 where
+  pub before : List N
+  pub last : N
+  pub parts : nodes ≡ before ++ last ∷ []
+  pub earlier : Each (λ n. Accepts (visit n)) before
+  pub refusing : visit last ≡ refuse (r .number) (r .line) (r .place)
+  pub counted : r .visits ≡ y .visits + length nodes
