@@ -18,7 +18,7 @@ use Rattle.rules.specs.declared.Line.the-variants.{LineA}
 use Rattle.rules.specs.Sheet.{point, pointsOf, segmentsOf, fewest, most, onSheet}
 use Rattle.rules.specs.Reply.{Check}
 use Rattle.rules.specs.Rows.{pointChecks, tableCheck, lengthChecks}
-use Rattle.rules.specs.Build.{lowest, offSheet, equalNext, sheetCheck, neighbourCheck, buildRefusal}
+use Rattle.rules.specs.Build.{lowest, offSheet, equalNext, buildChecks, buildRefusal}
 use Rattle.built.specs.Lowest.{Lowest}
 use Rattle.built.specs.Accepted.{rowNumbers, Accepted}
 use Rattle.built.proofs.Rows.{≤-or->}
@@ -79,14 +79,11 @@ module _ (ps t : List ℤ) where
       then le-ltb (length t) (rowNumbers ps) (a .room)
       then tt
 
-  abbrev buildChecks : List Check
-  buildChecks = pointChecks LineA ps ++ sheetCheck ps ∷ neighbourCheck ps ∷ tableCheck LineA ps t ∷ []
-
   -- building refuses nothing exactly where the line and the table are accepted
   pub accepted : buildRefusal ps t ≡ none → Accepted ps t
   unfolding buildRefusal
   accepted e =
-      let c = none-clear buildChecks e in
+      let c = none-clear (buildChecks ps t) e in
       record {
         even = omega (arith, eqb-false (length ps % 2) 1 (c .0));
         enough = ltb-false (pointsOf ps) fewest (c .1 .0);
@@ -100,7 +97,7 @@ module _ (ps t : List ℤ) where
   unfolding buildRefusal
   none-refused a =
       let c = lengths-clear LineA a in
-      clear-none buildChecks
+      clear-none (buildChecks ps t)
       (c .0
       then c .1 .0
       then c .1 .1 .0

@@ -2,25 +2,24 @@
 -- answers it. What a reply says beside its word is read off the walk: only a refusal, and AGREE's NO, say more.
 use mathlib.Core.Path.{_≡_, refl, sym, _∙_, ap}
 use mathlib.Core.Bool.{Bool, true, false, cond}
-use mathlib.Core.List.{List, [], _∷_, _++_}
+use mathlib.Core.List.{List}
 use mathlib.Core.Logic.{_⊎_, inl, inr, ⊎-elim, _≢_}
 use mathlib.Core.Option.{Option, none}
 use Prim.Native.Nat.{ℕ}
 use native.Mathlib.Nat.{le-refl}
 use lib.Dec.{T}
 use lib.IntN.{ℤ}
-use Rattle.rules.specs.declared.Line.the-variants.{LineA, LineB}
+use Rattle.rules.specs.declared.Line.the-variants.{LineA}
 use Rattle.rules.specs.declared.Point.{Point}
 use Rattle.rules.specs.declared.Refusal.{Refusal}
 use Rattle.allowance.specs.Enough.{pointEnough, pairEnough, agreeEnough}
 use Rattle.rules.specs.Plain.{plainNear, plainMeet, plainOn, plainInside}
 use Rattle.rules.specs.Reply.{Word, YES, NO, INSIDE, OUTSIDE, ON, UNDECIDED, REFUSED, Reply, says}
 use Rattle.rules.specs.Reply.{firstRefusal, orRefused}
-use Rattle.rules.specs.Rows.{lengthChecks, distanceCheck, askedCheck, ringCheck}
 use Rattle.rules.specs.Walk.{Walked, ended, over, spent, refused, fresh}
-use Rattle.rules.specs.Questions.{Nothing, yesOrNo, nearWalk, nearReply, meetWalk, meetReply}
-use Rattle.rules.specs.Questions.{sideOfRing, inWalk, inReply}
-use Rattle.rules.specs.Questions.{Asked, allNear, notNear, unasked, faulted, agreeWalk, agreed, agreeReply}
+use Rattle.rules.specs.Questions.{Nothing, yesOrNo, nearWalk, nearChecks, nearReply, meetWalk, meetChecks, meetReply}
+use Rattle.rules.specs.Questions.{sideOfRing, inWalk, inChecks, inReply}
+use Rattle.rules.specs.Questions.{Asked, allNear, notNear, unasked, faulted, agreeWalk, agreed, agreeChecks, agreeReply}
 use Rattle.rules.specs.Build.{sound}
 use Rattle.visits.specs.Truthful.{SaysOnly}
 use Rattle.visits.proofs.Tests.{never}
@@ -100,7 +99,7 @@ only-honest {w} {r} given only bare =
 
 -- NEAR, of any sound table
 pub near-answers : (ps t : List ℤ) (z : Point) (D : ℤ) → T (sound ps t)
-    → firstRefusal (lengthChecks LineA ps t ++ distanceCheck D ∷ askedCheck z ∷ []) ≡ none
+    → firstRefusal (nearChecks ps t z D) ≡ none
     → Answers (nearReply ps t z D) (nearPlain ps z D) (pointEnough ps)
 unfolding nearReply
 near-answers ps t z D held e =
@@ -110,7 +109,7 @@ near-answers ps t z D held e =
 
 -- IN, of any sound table
 pub in-answers : (ps t : List ℤ) (z : Point) → T (sound ps t)
-    → firstRefusal (lengthChecks LineA ps t ++ askedCheck z ∷ ringCheck LineA ps ∷ []) ≡ none
+    → firstRefusal (inChecks ps t z) ≡ none
     → Answers (inReply ps t z) (inPlain ps z) (pointEnough ps)
 unfolding inReply
 in-answers ps t z held e =
@@ -120,7 +119,7 @@ in-answers ps t z held e =
 
 -- MEET, of any sound tables
 pub meet-answers : (ps t qs t′ : List ℤ) → T (sound ps t) → T (sound qs t′)
-    → firstRefusal (lengthChecks LineA ps t ++ lengthChecks LineB qs t′) ≡ none
+    → firstRefusal (meetChecks ps t qs t′) ≡ none
     → Answers (meetReply ps t qs t′) (meetPlain ps qs) (pairEnough ps qs)
 unfolding meetReply
 meet-answers ps t qs t′ held held′ e =
@@ -140,7 +139,7 @@ module _ (ps qs : List ℤ) (D : ℤ) where
 
 -- AGREE, of any sound tables: a NO names the lowest point that is not NEAR the other line, of A before B
 pub agree-answers : (ps t qs t′ : List ℤ) (D : ℤ) → T (sound ps t) → T (sound qs t′)
-    → firstRefusal (lengthChecks LineA ps t ++ lengthChecks LineB qs t′ ++ distanceCheck D ∷ []) ≡ none
+    → firstRefusal (agreeChecks ps t qs t′ D) ≡ none
     → Answers (agreeReply ps t qs t′ D) (agreePlain ps qs D) (agreeEnough ps qs)
 unfolding agreeReply
 agree-answers ps t qs t′ D held held′ e =

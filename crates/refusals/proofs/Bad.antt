@@ -23,10 +23,9 @@ use Rattle.rules.specs.Plain.{within, share, onSegment}
 use Rattle.rules.specs.Reply.{Reply, Check, firstRefusal, orRefused, refuses}
 use Rattle.rules.specs.Rows.{good}
 use Rattle.rules.specs.Walk.{Visit, refuse, finish, pass, halve, Walked, ended, over, spent, refused, fresh, walk}
-use Rattle.rules.specs.Questions.{root, leftOf, rightOf, leaf, size, openNode, startOf, endOf, headingOf, farFrom}
+use Rattle.rules.specs.Questions.{root, leftOf, rightOf, leaf, size, openNode, startOf, endOf, headingOf, farFrom, nearChecks, meetChecks, inChecks, agreeChecks}
 use Rattle.rules.specs.Questions.{nearVisit, nearWalk, yesOrNo, nearReply, apart, meetVisit, meetReply, clearOf}
 use Rattle.rules.specs.Questions.{inVisit, sideOfRing, inReply, Asked, agreeWalk, agreed, agreeReply}
-use Rattle.refusals.specs.Reason.{nearChecks, meetChecks, inChecks, agreeChecks}
 use Rattle.refusals.specs.Trace.{visitsOf, Accepts, Each}
 use Rattle.refusals.specs.Named.{FirstBad, RowGood, RowBad, PairGood, PairBad, NearBad, InBad, MeetBad, OtherBad}
 use Rattle.refusals.specs.Named.{AgreeBad}

@@ -15,9 +15,9 @@ use Rattle.rules.specs.declared.Tally.{Tally}
 use Rattle.rules.specs.Sheet.{point}
 use Rattle.rules.specs.Reply.{Reply, firstRefusal, orRefused, refuses}
 use Rattle.rules.specs.Walk.{Walked, ended, over, spent, refused, fresh}
-use Rattle.rules.specs.Questions.{Nothing, nearWalk, yesOrNo, nearReply, meetWalk, meetReply, inWalk, sideOfRing}
+use Rattle.rules.specs.Questions.{Nothing, nearWalk, yesOrNo, nearReply, meetWalk, meetReply, inWalk, sideOfRing, nearChecks, meetChecks, inChecks, agreeChecks}
 use Rattle.rules.specs.Questions.{inReply, Asked, allNear, notNear, unasked, faulted, agreeWalk, agreed, agreeReply}
-use Rattle.refusals.specs.Reason.{Reason, nearChecks, meetChecks, inChecks, agreeChecks}
+use Rattle.refusals.specs.Reason.{Reason}
 use Rattle.refusals.specs.Named.{FirstOff, offRefusal, Reached, PointOff}
 use Rattle.refusals.proofs.First.{reason-refuses, number-exactly}
 use Rattle.refusals.proofs.Unchecked.{near-segment, in-segment, meet-segments, agree-segments}

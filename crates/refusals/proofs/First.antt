@@ -9,10 +9,10 @@ use Prim.Native.Nat.{ℕ}
 use lib.IntN.{ℤ}
 use Rattle.rules.specs.declared.Refusal.{Refusal}
 use Rattle.rules.specs.Reply.{Reply, Check, early, firstRefusal, orRefused, refuses}
-use Rattle.rules.specs.Build.{buildRefusal}
+use Rattle.rules.specs.Build.{buildRefusal, buildChecks}
 use Rattle.visits.proofs.Checks.{clear-none, orElse, first-append}
 use Rattle.visits.proofs.Tests.{never}
-use Rattle.refusals.specs.Reason.{Reason, buildChecks}
+use Rattle.refusals.specs.Reason.{Reason}
 
 first-reason : (ks : List Check) (f : Refusal) → firstRefusal ks ≡ some f → Reason ks f
 first-reason [] f e = never (cc)

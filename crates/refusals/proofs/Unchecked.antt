@@ -20,13 +20,12 @@ use Rattle.rules.specs.Plain.{within, share, onSegment}
 use Rattle.rules.specs.Reply.{Reply, Check, firstRefusal, orRefused}
 use Rattle.rules.specs.Rows.{good, lengthChecks, distanceCheck, askedCheck, ringCheck}
 use Rattle.rules.specs.Walk.{Visit, fresh}
-use Rattle.rules.specs.Questions.{root, leftOf, rightOf, leaf, size, splitIn, openNode, startOf, endOf, headingOf}
+use Rattle.rules.specs.Questions.{root, leftOf, rightOf, leaf, size, splitIn, openNode, startOf, endOf, headingOf, nearChecks, meetChecks, inChecks, agreeChecks}
 use Rattle.rules.specs.Questions.{farFrom, nearVisit, nearWalk, yesOrNo, nearReply, apart, meetVisit, meetWalk}
 use Rattle.rules.specs.Questions.{meetReply, clearOf, inVisit, inWalk, sideOfRing, inReply, askPoint, onNear, askAll}
 use Rattle.rules.specs.Questions.{onAllNear, agreeWalk, agreed, agreeReply}
 use Rattle.visits.proofs.Checks.{some-segment, rest-none}
 use Rattle.visits.proofs.Nodes.{good-read, Fits, root-fits, fits-left, fits-right, open-fits, larger-opens, other-opens}
-use Rattle.refusals.specs.Reason.{nearChecks, meetChecks, inChecks, agreeChecks}
 use Rattle.refusals.specs.Unchecked.{nearVisitUnchecked, nearWalkUnchecked, nearReplyUnchecked}
 use Rattle.refusals.specs.Unchecked.{meetVisitUnchecked, meetWalkUnchecked, meetReplyUnchecked, inVisitUnchecked}
 use Rattle.refusals.specs.Unchecked.{inWalkUnchecked, inReplyUnchecked, askAllUnchecked, agreeWalkUnchecked}

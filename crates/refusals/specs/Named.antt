@@ -20,8 +20,7 @@ use Rattle.rules.specs.Tree.{rowAt}
 use Rattle.rules.specs.Reply.{Reply, firstRefusal}
 use Rattle.rules.specs.Rows.{good}
 use Rattle.rules.specs.Walk.{fresh}
-use Rattle.rules.specs.Questions.{root, nearVisit, meetVisit, inVisit, allNear, askAll, onAllNear}
-use Rattle.refusals.specs.Reason.{agreeChecks}
+use Rattle.rules.specs.Questions.{root, nearVisit, meetVisit, inVisit, allNear, askAll, onAllNear, agreeChecks}
 use Rattle.refusals.specs.Trace.{visitsOf, Each}
 
 -- ---- of the nodes that are visited from tally y on, the last one is bad, at the reply's line and place, and each

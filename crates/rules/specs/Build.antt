@@ -43,8 +43,11 @@ neighbourCheck ps =
     let i = lowest (equalNext ps) 0 (segmentsOf ps) in record { holds = ltb i (segmentsOf ps); number = 5; line = LineA; place = i }
 
 -- 1, 2, 3, 4, 5, 6
+abbrev pub buildChecks : List ℤ → List ℤ → List Check
+buildChecks ps t = pointChecks LineA ps ++ sheetCheck ps ∷ neighbourCheck ps ∷ tableCheck LineA ps t ∷ []
+
 unfoldable pub buildRefusal : List ℤ → List ℤ → Option Refusal
-buildRefusal ps t = firstRefusal (pointChecks LineA ps ++ sheetCheck ps ∷ neighbourCheck ps ∷ tableCheck LineA ps t ∷ [])
+buildRefusal ps t = firstRefusal (buildChecks ps t)
 
 -- the table of a line, and what stands in a lent table after a build
 unfoldable pub tableOf : List ℤ → List ℤ

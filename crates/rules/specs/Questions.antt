@@ -18,7 +18,7 @@ use Rattle.rules.specs.Sheet.{point, pointsOf, segmentsOf, onSheet}
 use Rattle.rules.specs.declared.Row.{Row}
 use Rattle.rules.specs.Tree.{rowAt, nodeC, nodeT, isLeaf, rowCount, leftRow, rightRow}
 use Rattle.rules.specs.Plain.{within, share, onSegment, crosses, _⊕_}
-use Rattle.rules.specs.Reply.{Reply, YES, NO, INSIDE, OUTSIDE, ON, UNDECIDED, says, refuses, disagrees, firstRefusal, orRefused}
+use Rattle.rules.specs.Reply.{Check, Reply, YES, NO, INSIDE, OUTSIDE, ON, UNDECIDED, says, refuses, disagrees, firstRefusal, orRefused}
 use Rattle.rules.specs.Rows.{good, lengthChecks, distanceCheck, askedCheck, ringCheck}
 use Rattle.rules.specs.Walk.{Visit, refuse, finish, pass, halve, Walked, ended, over, spent, refused, fresh, walk}
 
@@ -96,9 +96,12 @@ yesOrNo allowance spent = says UNDECIDED allowance
 yesOrNo allowance (refused r) = refuses r
 
 -- 1, 2, 3, 6, 7, 8, then the walk
+abbrev pub nearChecks : List ℤ → List ℤ → Point → ℤ → List Check
+nearChecks ps t z D = lengthChecks LineA ps t ++ distanceCheck D ∷ askedCheck z ∷ []
+
 unfoldable pub nearReply : List ℤ → List ℤ → Point → ℤ → ℕ → Reply
 nearReply ps t z D allowance =
-    orRefused (firstRefusal (lengthChecks LineA ps t ++ distanceCheck D ∷ askedCheck z ∷ []))
+    orRefused (firstRefusal (nearChecks ps t z D))
     (yesOrNo allowance (nearWalk LineA ps t z D (fresh allowance)))
 
 -- ---- MEET: a pair of nodes, one of each line
@@ -140,9 +143,12 @@ meetWalk ps t qs t′ y =
     walk (meetVisit ps t qs t′) (segmentsOf ps + segmentsOf qs) (record { a = root ps; b = root qs }) tt y
 
 -- 1, 2, 3, 6 of A wholly, then of B, then the walk
+abbrev pub meetChecks : List ℤ → List ℤ → List ℤ → List ℤ → List Check
+meetChecks ps t qs t′ = lengthChecks LineA ps t ++ lengthChecks LineB qs t′
+
 unfoldable pub meetReply : List ℤ → List ℤ → List ℤ → List ℤ → ℕ → Reply
 meetReply ps t qs t′ allowance =
-    orRefused (firstRefusal (lengthChecks LineA ps t ++ lengthChecks LineB qs t′))
+    orRefused (firstRefusal (meetChecks ps t qs t′))
     (yesOrNo allowance (meetWalk ps t qs t′ (fresh allowance)))
 
 -- ---- IN: z is strictly outside box or strip
@@ -176,9 +182,12 @@ sideOfRing allowance spent = says UNDECIDED allowance
 sideOfRing allowance (refused r) = refuses r
 
 -- 1, 2, 3, 6, 8, 9, then the walk
+abbrev pub inChecks : List ℤ → List ℤ → Point → List Check
+inChecks ps t z = lengthChecks LineA ps t ++ askedCheck z ∷ ringCheck LineA ps ∷ []
+
 unfoldable pub inReply : List ℤ → List ℤ → Point → ℕ → Reply
 inReply ps t z allowance =
-    orRefused (firstRefusal (lengthChecks LineA ps t ++ askedCheck z ∷ ringCheck LineA ps ∷ []))
+    orRefused (firstRefusal (inChecks ps t z))
     (sideOfRing allowance (inWalk ps t z (fresh allowance)))
 
 -- ---- AGREE: what asking points of one line against the other comes to
@@ -223,7 +232,10 @@ agreed allowance unasked = says UNDECIDED allowance
 agreed allowance (faulted r) = refuses r
 
 -- 1, 2, 3, 6 of A wholly, then of B, then 7, then the walks
+abbrev pub agreeChecks : List ℤ → List ℤ → List ℤ → List ℤ → ℤ → List Check
+agreeChecks ps t qs t′ D = lengthChecks LineA ps t ++ lengthChecks LineB qs t′ ++ distanceCheck D ∷ []
+
 unfoldable pub agreeReply : List ℤ → List ℤ → List ℤ → List ℤ → ℤ → ℕ → Reply
 agreeReply ps t qs t′ D allowance =
-    orRefused (firstRefusal (lengthChecks LineA ps t ++ lengthChecks LineB qs t′ ++ distanceCheck D ∷ []))
+    orRefused (firstRefusal (agreeChecks ps t qs t′ D))
     (agreed allowance (agreeWalk ps t qs t′ D (fresh allowance)))

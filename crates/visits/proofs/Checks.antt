@@ -13,11 +13,7 @@ use Rattle.rules.specs.declared.Refusal.{Refusal}
 use Rattle.rules.specs.Sheet.{pointsOf, segmentsOf, fewest}
 use Rattle.rules.specs.Reply.{Check, early, firstRefusal}
 use Rattle.rules.specs.Rows.{lengthChecks}
-
--- not one of the checks holds
-abbrev pub Clear : List Check → Type 0
-Clear [] = Unit {0}
-Clear (k ∷ ks) = (k .holds ≡ false) × Clear ks
+pub use Rattle.visits.specs.Clear.{Clear}
 
 -- nothing is refused exactly where no check holds
 pub none-clear : (ks : List Check) → firstRefusal ks ≡ none → Clear ks
