@@ -21,12 +21,13 @@ use Rattle.print.proofs.Writing.{put-same, put-behind}
 use Rattle.desk.specs.Desk.{room, Desk, Turn, turn, saidBytes, bytesOf}
 use Rattle.desk.specs.Chunks.{Carry, keep, carryByte, printByte, carryChunk, printChunk, lastLine}
 use Rattle.desk.proofs.Chunks.{carry-append, print-append}
-use Rattle.counter.specs.declared.State.{State}
-use Rattle.counter.specs.declared.Turned.{Turned}
+use Rattle.turns.specs.declared.State.{State}
+use Rattle.turns.specs.declared.Turned.{Turned}
 use Rattle.counter.specs.declared.Fed.{Fed}
-use Rattle.counter.specs.Left.{Numbers, Slices, textLeft, lineLeft, byteLeft, chunkLeft, lastLeft}
-use Rattle.counter.specs.Carried.{deskOf, carryOf, keptBytes, Lent, Bounds, Feeds, Finishes}
-use Rattle.counter.specs.Turns.{heard, counted, Turns, Keeps}
+use Rattle.turns.specs.Left.{Numbers, Slices, textLeft, lineLeft, byteLeft, chunkLeft, lastLeft}
+use Rattle.turns.specs.Carried.{deskOf, keptBytes, Lent, Bounds}
+use Rattle.counter.specs.Carried.{carryOf, Feeds, Finishes, Keeps}
+use Rattle.turns.specs.Turns.{heard, counted, Turns}
 
 -- Nothing written leaves all as it was.
 pub put-none : (d : List ℕ) (at : ℕ) → Put d at [] d at

@@ -5,8 +5,8 @@ use Prim.Native.Nat.{ℕ}
 use Rattle.desk.specs.Program.{program}
 use Rattle.desk.specs.Chunks.{Carry, begun, printChunk, printChunks, joinAll}
 use Rattle.desk.proofs.Chunks.{cut-anyhow}
-use Rattle.counter.specs.declared.State.{State}
-use Rattle.counter.specs.Left.{Slices}
+use Rattle.turns.specs.declared.State.{State}
+use Rattle.turns.specs.Left.{Slices}
 use Rattle.counter.specs.Carried.{carryOf}
 use Rattle.counter.specs.Runs.{Runs, ended, fed}
 use Rattle.counter.proofs.Carries.{put-front}

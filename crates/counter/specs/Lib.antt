@@ -1,6 +1,3 @@
--- What the lent slices hold afterwards, the carried state in the words of the definitions of the question program, and the
--- turn of a text line.
-pub mod Left
+-- What is carried from chunk to chunk, what a chunk comes to, and a whole run.
 pub mod Carried
-pub mod Turns
 pub mod Runs

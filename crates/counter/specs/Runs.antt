@@ -2,9 +2,9 @@
 use mathlib.Core.List.{List, [], _∷_, _++_}
 use Prim.Native.Nat.{ℕ}
 use lib.ListN.{take}
-use Rattle.counter.specs.declared.State.{State}
+use Rattle.turns.specs.declared.State.{State}
 use Rattle.counter.specs.declared.Fed.{Fed}
-use Rattle.counter.specs.Left.{Numbers, Slices}
+use Rattle.turns.specs.Left.{Numbers, Slices}
 use Rattle.counter.specs.Carried.{Feeds, Finishes}
 
 -- from a state and what the lent slices hold, over the chunks that are read, to the bytes that are written

@@ -1,10 +1,10 @@
 // A byte of the input, and the bytes that a turn prints.
 use crate::Fed;
-use crate::Speech;
-use crate::State;
-use crate::Turned;
-use crate::turns::turn_line;
 use print::put_line;
+use turns::Speech;
+use turns::State;
+use turns::Turned;
+use turns::turn_line;
 ghost use mathlib.Core.Path.{_≡_};
 ghost use mathlib.Core.List.{[], _∷_};
 ghost use Prim.Native.Nat.{_+_, _≤_, _<_, _^_};
@@ -12,9 +12,10 @@ ghost use lib.ListN.{length};
 ghost use Rattle.print.specs.Printed.{widest};
 ghost use Rattle.print.specs.Put.{Put};
 ghost use Rattle.desk.specs.Desk.{saidBytes};
-ghost use Rattle.counter.specs.Left.{slices};
-ghost use Rattle.counter.specs.Carried.{keptBytes, Lent, Bounds, Feeds};
-ghost use Rattle.counter.specs.Turns.{heard, Keeps};
+ghost use Rattle.turns.specs.Left.{slices};
+ghost use Rattle.turns.specs.Carried.{keptBytes, Lent, Bounds};
+ghost use Rattle.counter.specs.Carried.{Feeds, Keeps};
+ghost use Rattle.turns.specs.Turns.{heard};
 
 // One byte more than a text line may have is kept.
 const KEPT: usize = 81;

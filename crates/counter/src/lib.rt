@@ -1,53 +1,26 @@
-// The question program on slices: what a text line comes to, and what a chunk of bytes prints. The program above it only reads
-// and writes. `feed` and `finish` say what is printed by the definitions of `desk`, however the input is cut into chunks, and
+// The question program on slices: what a chunk of bytes prints. The program above it only reads and writes. `feed` and `finish` say what is printed by the definitions of `desk`, however the input is cut into chunks, and
 // what every lent slice holds afterwards.
 mod bytes;
-mod points;
-mod questions;
-mod states;
-mod turns;
 
 use bytes::feed_byte;
 use bytes::print_turn;
 use desk::Held;
-use print::Said;
 use rules::Line;
+use turns::State;
 use turns::turn_line;
 ghost use mathlib.Core.Path.{_≡_};
 ghost use Prim.Native.Nat.{_+_, _*_, _≤_, _<_, _^_};
 ghost use lib.ListN.{length};
 ghost use Rattle.print.specs.Printed.{widest};
 ghost use Rattle.desk.specs.Chunks.{begun};
-ghost use Rattle.counter.specs.Left.{Slices, numbers, slices};
-ghost use Rattle.counter.specs.Carried.{carryOf, keptBytes, Lent, Bounds, Feeds, Finishes};
-
-// What is carried beside the lent slices: where points go, how the two lines are held, the text lines read, the lines
-// printed, and the bytes kept of the text line that has not ended.
-pub struct State {
-    pub target: Line,
-    pub a: Held,
-    pub b: Held,
-    pub read: usize,
-    pub printed: u64,
-    pub pending: usize,
-}
+ghost use Rattle.turns.specs.Left.{Slices, numbers, slices};
+ghost use Rattle.turns.specs.Carried.{keptBytes, Lent, Bounds};
+ghost use Rattle.counter.specs.Carried.{carryOf, Feeds, Finishes};
 
 // What a chunk comes to: the bytes that it prints stand at the front of the lent slice.
 pub struct Fed {
     pub state: State,
     pub wrote: usize,
-}
-
-// What a text line makes the program say.
-enum Speech {
-    Quiet,
-    Says(Said),
-}
-
-// What a text line comes to.
-struct Turned {
-    state: State,
-    speech: Speech,
 }
 
 pub fn opened() -> State

@@ -10,7 +10,7 @@ use libc::STDOUT_FILENO;
 ghost use mathlib.Core.Path.{_≡_};
 ghost use Prim.Native.Nat.{_+_, _<_, _≤_, _^_};
 ghost use lib.ListN.{length};
-ghost use Rattle.counter.specs.Carried.{Bounds};
+ghost use Rattle.turns.specs.Carried.{Bounds};
 
 // A proved loop has to end, and nothing says that the input does: the turns are counted down, from a number that no run uses
 // up and for which the text lines of all chunks can be counted.

@@ -4,7 +4,7 @@ use Prim.Native.Nat.{_-_}
 use native.Mathlib.Omega.{arith}
 use lib.ListN.{length}
 use borrow.Author.Needs.{needs}
-use Rattle.counter.specs.Left.{slices}
+use Rattle.turns.specs.Left.{slices}
 use Rattle.counter.proofs.Carries.{Passed, passed-none, passed-room, passed-number, passed-more, passed-all}
 use Rattle.counter.proofs.feed.Statement.{statement}
 use Rattle.counter.proofs.feed.Tie as tie

@@ -1,5 +1,5 @@
 -- `finish`: where bytes are pending, they are the last text line.
-use Rattle.counter.specs.Left.{Slices, slices}
+use Rattle.turns.specs.Left.{Slices, slices}
 use Rattle.counter.proofs.Carries.{pending-bytes, last-none, last-turn}
 use borrow.Author.Needs.{needs}
 use Rattle.counter.proofs.finish.Statement.{statement}

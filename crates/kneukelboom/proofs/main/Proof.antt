@@ -5,8 +5,8 @@ use Prim.Native.Nat.{_+_, _*_, _^_, _≤_, _<_}
 use native.Mathlib.Omega.{arith}
 use lib.ListN.{length}
 use Rattle.desk.specs.Chunks.{Carry}
-use Rattle.counter.specs.Left.{slices}
-use Rattle.counter.specs.Carried.{Bounds}
+use Rattle.turns.specs.Left.{slices}
+use Rattle.turns.specs.Carried.{Bounds}
 use borrow.Author.Needs.{needs}
 use Rattle.kneukelboom.proofs.main.Statement.{statement}
 use Rattle.kneukelboom.proofs.main.Tie as tie

@@ -1,5 +1,5 @@
 -- `feed_byte` goes by the byte: a line feed ends the text line, and any other byte is kept.
-use Rattle.counter.specs.Left.{Slices, slices}
+use Rattle.turns.specs.Left.{Slices, slices}
 use Rattle.counter.proofs.Carries.{pending-bytes, byte-kept, byte-ends}
 use borrow.Author.Needs.{needs}
 use Rattle.counter.proofs.bytes.feed_byte.Statement.{statement}

@@ -4,8 +4,8 @@ use mathlib.Core.List.{List}
 use Prim.Native.Nat.{ℕ}
 use Rattle.print.proofs.Writing.{put-same}
 use Rattle.desk.specs.Desk.{saidBytes}
-use Rattle.counter.specs.declared.Speech.{Speech}
-use Rattle.counter.specs.Turns.{heard}
+use Rattle.turns.specs.declared.Speech.{Speech}
+use Rattle.turns.specs.Turns.{heard}
 use Rattle.counter.proofs.Carries.{put-none}
 use borrow.Author.Needs.{needs}
 use Rattle.counter.proofs.bytes.print_turn.Statement.{statement}

@@ -1,0 +1,3 @@
+-- Points behind points, and turns of the desk.
+pub mod Stores
+pub mod Desks
