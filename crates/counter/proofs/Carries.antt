@@ -148,7 +148,7 @@ module _ {s : State} (l : Slices) (bounds : Bounds s) {byte : ℕ} (out : List �
       }
 
 -- ---------------- bytes behind bytes
-left-append : (c : Carry) (l : Slices) (xs ys : List ℕ) → chunkLeft c l (xs ++ ys) ≡ chunkLeft (carryChunk c xs) (chunkLeft c l xs) ys
+pub left-append : (c : Carry) (l : Slices) (xs ys : List ℕ) → chunkLeft c l (xs ++ ys) ≡ chunkLeft (carryChunk c xs) (chunkLeft c l xs) ys
 unfolding chunkLeft carryChunk
 left-append c l [] ys = refl
 left-append c l (x ∷ xs) ys = left-append (carryByte c x) (byteLeft c l x) xs ys

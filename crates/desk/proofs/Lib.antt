@@ -1,3 +1,4 @@
 -- Theorems about the question program's definition.
 pub mod Figures
 pub mod Chunks
+pub mod Begun
