@@ -1,6 +1,6 @@
-// MEET: whether some segment of line A and some of line B share a point. One visit reads a row of each line and dismisses the
-// pair, tests two segments, or halves one node. Of a pair only one row is new, so a row is checked before the walk goes to it.
-// `meet` takes any slices, and says what `rules` says of them.
+// MEET: whether some segment of line A and some of line B share a point. One visit reads a row of each line and
+// dismisses the pair, tests two segments, or halves one node. Of a pair only one row is new, so a row is checked before
+// the walk goes to it. `meet` takes any slices, and says what `rules` says of them.
 mod segments;
 mod strips;
 
@@ -13,7 +13,6 @@ use ends::bad_second_due;
 use ends::came;
 use ends::stopped;
 use ends::tally_in;
-use ends::visits_in;
 use line::Checked;
 use line::check_lengths;
 use line::direction;
@@ -117,7 +116,8 @@ fn compare(points_a: &[i32], r: Row, points_b: &[i32], q: Row, pair: Pair) -> St
 // One visit of a pair whose rows are known to be good.
 fn visit(points_a: &[i32], table_a: &[i32], points_b: &[i32], table_b: &[i32], pair: Pair) -> Step
     requires { ⌜ PairGood (now «points_a») (now «table_a») (now «points_b») (now «table_b») pair ⌝ }
-    ensures { λ s. ⌜ stepVisit pair s ≡ meetVisit (now («points_a» .entry)) (now («table_a» .entry)) (now («points_b» .entry)) (now («table_b» .entry)) pair ⌝ }
+    ensures { λ s. ⌜ stepVisit pair s
+        ≡ meetVisit (now («points_a» .entry)) (now («table_a» .entry)) (now («points_b» .entry)) (now («table_b» .entry)) pair ⌝ }
     ensures { λ s. ⌜ SplitsInside pair s ⌝ }
 {
     let a = pair.a;
@@ -127,79 +127,137 @@ fn visit(points_a: &[i32], table_a: &[i32], points_b: &[i32], table_b: &[i32], p
     compare(points_a, r, points_b, q, pair)
 }
 
-// The pair of A's node at row p, from point i to j, and B's at row q, from point k to l.
-fn pair_of(p: usize, i: usize, j: usize, q: usize, k: usize, l: usize) -> Pair
-    ensures { λ r. ⌜ r ≡ pairOf p i j q k l ⌝ }
+// The pair of a node of A and a node of B, each given by its row and its range of points.
+fn pair_of(
+    row_a: usize,
+    first_a: usize,
+    last_a: usize,
+    row_b: usize,
+    first_b: usize,
+    last_b: usize,
+) -> Pair
+    ensures { λ r. ⌜ r ≡ pairOf «row_a» «first_a» «last_a» «row_b» «first_b» «last_b» ⌝ }
 {
     let a = Node {
-        row: p,
-        first: i,
-        last: j,
+        row: row_a,
+        first: first_a,
+        last: last_a,
     };
     let b = Node {
-        row: q,
-        first: k,
-        last: l,
+        row: row_b,
+        first: first_b,
+        last: last_b,
     };
     Pair { a, b }
 }
 
-// The walk from a pair on, the left half first; a yes ends it, and so does a bad row of a half. The pair and the tally come as
-// plain numbers, so that they stay in registers: line A with its points a and table ta, line B with b and tb.
+// The walk from a pair on, the left half first; a yes ends it, and so does a bad row of a half. Each visit takes the
+// tally and gives the next one back. The pair comes as plain numbers, so that it stays in registers.
 fn walk(
-    a: &&[i32],
-    ta: &&[i32],
-    b: &&[i32],
-    tb: &&[i32],
-    p: usize,
-    i: usize,
-    j: usize,
-    q: usize,
-    k: usize,
-    l: usize,
-    allowance: u32,
-    visits: u32,
+    points_a: &&[i32],
+    table_a: &&[i32],
+    points_b: &&[i32],
+    table_b: &&[i32],
+    row_a: usize,
+    first_a: usize,
+    last_a: usize,
+    row_b: usize,
+    first_b: usize,
+    last_b: usize,
+    tally: Tally,
 ) -> u64
-    requires { ⌜ PairGood (now (now a)) (now (now ta)) (now (now b)) (now (now tb)) (pairOf p i j q k l) ⌝ }
-    ensures { λ r. ⌜ ((f : ℕ) → segments (pairOf p i j q k l) ≤ f → cameTo tt tt Line.LineA Line.LineB allowance r ≡ walk (meetVisit (now (now (a .entry))) (now (now (ta .entry))) (now (now (b .entry))) (now (now (tb .entry)))) f (pairOf p i j q k l) tt (record { allowance = allowance; visits = visits })) ⌝ }
+    requires { ⌜ PairGood (now (now «points_a»)) (now (now «table_a»)) (now (now «points_b»)) (now (now «table_b»))
+        (pairOf «row_a» «first_a» «last_a» «row_b» «first_b» «last_b») ⌝ }
+    ensures { λ r. ⌜ ((f : ℕ) → segments (pairOf «row_a» «first_a» «last_a» «row_b» «first_b» «last_b») ≤ f
+        → cameTo tt tt Line.LineA Line.LineB (tally .allowance) r
+        ≡ walk (meetVisit (now (now («points_a» .entry))) (now (now («table_a» .entry)))
+        (now (now («points_b» .entry))) (now (now («table_b» .entry))))
+        f (pairOf «row_a» «first_a» «last_a» «row_b» «first_b» «last_b») tt tally) ⌝ }
 {
-    let tally = Tally { allowance, visits };
     let Next::Left(counted) = tally.visit() else {
         return came(0, SPENT);
     };
-    let made = counted.visits;
-    match visit(*a, *ta, *b, *tb, pair_of(p, i, j, q, k, l)) {
-        Step::Finish => came(made, ENDED),
-        Step::Pass => came(made, EVEN),
+    let pair = pair_of(row_a, first_a, last_a, row_b, first_b, last_b);
+    match visit(*points_a, *table_a, *points_b, *table_b, pair) {
+        Step::Finish => came(counted.visits, ENDED),
+        Step::Pass => came(counted.visits, EVEN),
         Step::HalveA(split) => {
-            if !good_from(*a, row_at(*ta, p + 1), i, split) {
-                return bad_row_due(counted, p + 1);
+            if !good_from(*points_a, row_at(*table_a, row_a + 1), first_a, split) {
+                return bad_row_due(counted, row_a + 1);
             }
-            let left = walk(a, ta, b, tb, p + 1, i, split, q, k, l, allowance, made);
+            let left = walk(
+                points_a,
+                table_a,
+                points_b,
+                table_b,
+                row_a + 1,
+                first_a,
+                split,
+                row_b,
+                first_b,
+                last_b,
+                counted,
+            );
             if stopped(left) {
                 return left;
             }
-            let right = p + 2 * (split - i);
-            if !good_between(*a, row_at(*ta, right), split, j) {
-                return bad_row_due(tally_in(allowance, left), right);
+            let right = row_a + 2 * (split - first_a);
+            let next = tally_in(counted.allowance, left);
+            if !good_between(*points_a, row_at(*table_a, right), split, last_a) {
+                return bad_row_due(next, right);
             }
-            let after = visits_in(left);
-            walk(a, ta, b, tb, right, split, j, q, k, l, allowance, after)
+            walk(
+                points_a,
+                table_a,
+                points_b,
+                table_b,
+                right,
+                split,
+                last_a,
+                row_b,
+                first_b,
+                last_b,
+                next,
+            )
         }
         Step::HalveB(split) => {
-            if !good_from(*b, row_at(*tb, q + 1), k, split) {
-                return bad_second_due(counted, q + 1);
+            if !good_from(*points_b, row_at(*table_b, row_b + 1), first_b, split) {
+                return bad_second_due(counted, row_b + 1);
             }
-            let left = walk(a, ta, b, tb, p, i, j, q + 1, k, split, allowance, made);
+            let left = walk(
+                points_a,
+                table_a,
+                points_b,
+                table_b,
+                row_a,
+                first_a,
+                last_a,
+                row_b + 1,
+                first_b,
+                split,
+                counted,
+            );
             if stopped(left) {
                 return left;
             }
-            let right = q + 2 * (split - k);
-            if !good_between(*b, row_at(*tb, right), split, l) {
-                return bad_second_due(tally_in(allowance, left), right);
+            let right = row_b + 2 * (split - first_b);
+            let next = tally_in(counted.allowance, left);
+            if !good_between(*points_b, row_at(*table_b, right), split, last_b) {
+                return bad_second_due(next, right);
             }
-            let after = visits_in(left);
-            walk(a, ta, b, tb, p, i, j, right, split, l, allowance, after)
+            walk(
+                points_a,
+                table_a,
+                points_b,
+                table_b,
+                row_a,
+                first_a,
+                last_a,
+                right,
+                split,
+                last_b,
+                next,
+            )
         }
     }
 }
@@ -214,8 +272,8 @@ fn at_once(tally: Tally) -> Answer
     Answer::No(counted.visits)
 }
 
-// The answer of the walk from both roots, whose rows are checked first. Roots with their boxes apart, as most lines of a register
-// have them, need no walk.
+// The answer of the walk from both roots, whose rows are checked first. Roots with their boxes apart, as most lines of a
+// register have them, need no walk.
 fn from_roots(
     points_a: &[i32],
     table_a: &[i32],
@@ -224,7 +282,8 @@ fn from_roots(
     allowance: u32,
 ) -> Answer
     requires { ⌜ LengthsFine (now «points_a») (now «table_a») × LengthsFine (now «points_b») (now «table_b») ⌝ }
-    ensures { λ r. ⌜ answerReply r ≡ yesOrNo allowance (meetWalk (now («points_a» .entry)) (now («table_a» .entry)) (now («points_b» .entry)) (now («table_b» .entry)) (fresh allowance)) ⌝ }
+    ensures { λ r. ⌜ answerReply r ≡ yesOrNo allowance
+        (meetWalk (now («points_a» .entry)) (now («table_a» .entry)) (now («points_b» .entry)) (now («table_b» .entry)) (fresh allowance)) ⌝ }
 {
     let last_a = points_a.len() / 2 - 1;
     let last_b = points_b.len() / 2 - 1;
@@ -255,8 +314,7 @@ fn from_roots(
             0,
             0,
             last_b,
-            allowance,
-            0,
+            fresh,
         ),
         allowance,
     )
@@ -270,7 +328,8 @@ pub fn meet(
     table_b: &[i32],
     allowance: u32,
 ) -> Answer
-    ensures { λ r. ⌜ answerReply r ≡ meetReply (now («points_a» .entry)) (now («table_a» .entry)) (now («points_b» .entry)) (now («table_b» .entry)) allowance ⌝ }
+    ensures { λ r. ⌜ answerReply r
+        ≡ meetReply (now («points_a» .entry)) (now («table_a» .entry)) (now («points_b» .entry)) (now («table_b» .entry)) allowance ⌝ }
 {
     if let Checked::Refused(refusal) = check_lengths(Line::LineA, points_a, table_a) {
         return Answer::Refused(refusal);

@@ -34,8 +34,8 @@ fn turned(u: Point) -> Point
     Point { x: -u.y, y: u.x }
 }
 
-// Whether t along v is below lo at all four corners of the box of q, or above hi at all four. Its least and greatest there
-// are those of its two parts together, so nothing branches on the corners.
+// Whether t along v is below lo at all four corners of the box of q, or above hi at all four. Its least and greatest
+// there are those of its two parts together, so nothing branches on the corners.
 fn beyond(v: Point, s: Point, q: Row, lo: i64, hi: i64) -> bool
     requires { ⌜ OnSheet s × Small v × BoxOnSheet q ⌝ }
     ensures { λ b. ⌜ b ≡ beyondCorners (tAt s v) lo hi q ⌝ }
