@@ -1,6 +1,2 @@
--- Laws that the proofs of `meet` share.
-pub mod GoodRows
-pub mod Corners
-pub mod Steps
-pub mod Halves
+-- What the proof of `meet` stands on.
 pub mod Replies

@@ -1,0 +1,2 @@
+-- Laws that the proofs of `apart` share.
+pub mod Corners

@@ -1,0 +1,56 @@
+-- `boxes_apart` asks one side after another; the first that parts them decides.
+use mathlib.Core.Path.{_≡_, sym, _∙_}
+use mathlib.Core.Bool.{_||_}
+use lib.IntN.{ℤ}
+use lib.Signed.{ltZ}
+use mir.Syntax.{w64}
+use mir.Val.{toZ, ofZ}
+use Rattle.whole.specs.Range.{Abs≤}
+use Rattle.rules.specs.Sheet.{limit}
+use Rattle.line.proofs.Stored.{stored}
+use Rattle.apart.proofs.strips.boxes_apart.Statement.{statement}
+use Rattle.apart.proofs.strips.boxes_apart.Tie as tie
+
+-- a test of two numbers on the sheet is that of the numbers
+read : {x y : ℤ} → Abs≤ limit x → Abs≤ limit y → ltZ (toZ w64 (ofZ w64 x)) (toZ w64 (ofZ w64 y)) ≡ ltZ x y
+read h k i = ltZ (stored h tt i) (stored k tt i)
+
+returns : tie.Need-returns
+returns c =
+    let s = c .before .before .before .before .before in
+    let r = s .args .r in
+    let q = s .args .q in
+    let e1 = sym (read (s .pre .0 .xmax-in) (s .pre .1 .xmin-in)) ∙ c .if1 .taken in
+    sym (λ i. e1 i || ltZ (q .xmax) (r .xmin) || ltZ (r .ymax) (q .ymin) || ltZ (q .ymax) (r .ymin))
+
+returns-2 : tie.Need-returns-2
+returns-2 c =
+    let s = c .before .before .before .before .before .before .before .before .before .before in
+    let r = s .args .r in
+    let q = s .args .q in
+    let e1 = sym (read (s .pre .0 .xmax-in) (s .pre .1 .xmin-in)) ∙ c .before .before .before .before .before .if1 .left in
+    let e2 = sym (read (s .pre .1 .xmax-in) (s .pre .0 .xmin-in)) ∙ c .if2 .taken in
+    sym (λ i. e1 i || e2 i || ltZ (r .ymax) (q .ymin) || ltZ (q .ymax) (r .ymin))
+
+returns-3 : tie.Need-returns-3
+returns-3 c =
+    let s = c .before .before .before .before .before .before .before .before .before .before .before .before .before .before .before in
+    let r = s .args .r in
+    let q = s .args .q in
+    let e1 = sym (read (s .pre .0 .xmax-in) (s .pre .1 .xmin-in)) ∙ c .before .before .before .before .before .before .before .before .before .before .if1 .left in
+    let e2 = sym (read (s .pre .1 .xmax-in) (s .pre .0 .xmin-in)) ∙ c .before .before .before .before .before .if2 .left in
+    let e3 = sym (read (s .pre .0 .ymax-in) (s .pre .1 .ymin-in)) ∙ c .if3 .taken in
+    sym (λ i. e1 i || e2 i || e3 i || ltZ (q .ymax) (r .ymin))
+
+returns-4 : tie.Need-returns-4
+returns-4 c =
+    let s = c .before .before .before .before .before .before .before .before .before .before .before .before .before .before .before .before .before .before .before in
+    let r = s .args .r in
+    let q = s .args .q in
+    let e1 = sym (read (s .pre .0 .xmax-in) (s .pre .1 .xmin-in)) ∙ c .before .before .before .before .before .before .before .before .before .before .before .before .before .before .if1 .left in
+    let e2 = sym (read (s .pre .1 .xmax-in) (s .pre .0 .xmin-in)) ∙ c .before .before .before .before .before .before .before .before .before .if2 .left in
+    let e3 = sym (read (s .pre .0 .ymax-in) (s .pre .1 .ymin-in)) ∙ c .before .before .before .before .if3 .left in
+    read (s .pre .1 .ymax-in) (s .pre .0 .ymin-in) ∙ sym (λ i. e1 i || e2 i || e3 i || ltZ (q .ymax) (r .ymin))
+
+pub boxes-apart-spec : {M : Type 1} → statement M
+boxes-apart-spec = tie.close (tie.spec returns returns-2 returns-3 returns-4)

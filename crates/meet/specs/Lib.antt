@@ -1,4 +1,0 @@
--- What the contracts of `meet` are said with.
-pub mod Pairs
-pub mod Turned
-pub mod Said
