@@ -1,2 +1,3 @@
--- What the proof of `meet` stands on.
+-- Laws that the proofs of `meet` share.
+pub mod Roots
 pub mod Replies

@@ -10,8 +10,8 @@ use Rattle.rules.specs.Tree.{width}
 use Rattle.rules.specs.Questions.{leftOf, rightOf}
 use Rattle.row.specs.Stands.{Stands}
 use Rattle.row.proofs.Places.{left-stands, right-stands}
-use Rattle.meet_walk.specs.Pairs.{GoodAt, PairGood}
-use Rattle.meet_walk.specs.Said.{segments}
+use Rattle.meet_visit.specs.Pairs.{GoodAt, PairGood}
+use Rattle.meet_walk.specs.Pair.{segments}
 
 -- what reading and checking the row of a node asks: a row of the table, and a range of points of the line
 module _ {ps t : List ℤ} {n : Node} (h : Stands ps t n) where

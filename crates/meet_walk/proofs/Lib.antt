@@ -1,4 +1,2 @@
--- Laws that the proofs of `meet_walk` share, and those of `meet`.
-pub mod GoodRows
-pub mod Steps
+-- What the proof of `walk` stands on.
 pub mod Halves

@@ -1,3 +1,2 @@
 -- What the contracts of `meet_walk` are said with.
-pub mod Pairs
-pub mod Said
+pub mod Pair

@@ -18,9 +18,10 @@ use Rattle.rules.specs.Questions.{Nothing, root, boxesApart, yesOrNo, meetVisit
 use Rattle.ends.specs.Came.{cameTo}
 use Rattle.ends.proofs.Dues.{reads-bad-due, reads-second-due}
 use Rattle.row.proofs.Places.{root-stands}
-use Rattle.meet_walk.specs.Pairs.{Read}
-use Rattle.meet_walk.proofs.GoodRows.{placed}
-use Rattle.meet_walk.proofs.Steps.{bad-a, bad-b, boxes-dismiss, dismissed}
+use Rattle.meet_visit.specs.Pairs.{Read}
+use Rattle.meet_visit.proofs.GoodRows.{placed}
+use Rattle.meet_visit.proofs.Steps.{bad-a, bad-b}
+use Rattle.meet.proofs.Roots.{boxes-dismiss, dismissed}
 use borrow.Author.Needs.{needs}
 use Rattle.meet.proofs.from_roots.Statement.{statement}
 use Rattle.meet.proofs.from_roots.Tie as tie

@@ -25,15 +25,16 @@ use Rattle.ends.specs.Came.{ENDED, endIn, badRow, badSecond, tallyIn, due, came
 use Rattle.ends.proofs.Ends.{reads-even, reads-ended, reads-spent, stops, goes, keeps}
 use Rattle.ends.proofs.Dues.{due-stops, reads-bad-due, reads-second-due}
 use Rattle.row.proofs.Places.{row-small, left-stands, right-stands}
-use Rattle.meet_walk.specs.declared.Step.{Step}
-use Rattle.meet_walk.specs.declared.Step.the-variants.{Finish, Pass, HalveA, HalveB}
-use Rattle.meet_walk.specs.Pairs.{PairGood}
-use Rattle.meet_walk.specs.Said.{stepVisit, SplitsInside, pairOf, segments}
+use Rattle.meet_visit.specs.declared.Step.{Step}
+use Rattle.meet_visit.specs.declared.Step.the-variants.{Finish, Pass, HalveA, HalveB}
+use Rattle.meet_visit.specs.Pairs.{PairGood}
+use Rattle.meet_visit.specs.Said.{stepVisit, SplitsInside}
+use Rattle.meet_walk.specs.Pair.{pairOf, segments}
 use Rattle.meet_walk.proofs.Halves.{row-in, range-in, Fewer, enough, some-level}
 use Rattle.meet_walk.proofs.Halves.{leftA as lowOfA, rightA as highOfA, leftB as lowOfB, rightB as highOfB}
 use Rattle.meet_walk.proofs.Halves.{left-fewer-a, right-fewer-a, left-good-a, right-good-a}
 use Rattle.meet_walk.proofs.Halves.{left-fewer-b, right-fewer-b, left-good-b, right-good-b}
-use Rattle.meet_walk.proofs.Steps.{bad-a, bad-b}
+use Rattle.meet_visit.proofs.Steps.{bad-a, bad-b}
 use borrow.Fn.Kinds.{In}
 use borrow.Fn.PlainCycle.{Measures, is, falls, and}
 use borrow.Author.Needs.{needs}
@@ -41,7 +42,7 @@ use Rattle.meet_walk.proofs.walk.Reads as walk
 use Rattle.meet_walk.proofs.walk.Kinds as walk-kinds
 use Rattle.meet_walk.proofs.+walk.Lts-walk as walk-lts
 use Rattle.meet_walk.proofs.pair_of.Reads as pair-of-reads
-use Rattle.meet_walk.proofs.visit.Reads as visit-reads
+use Rattle.meet_visit.proofs.visit.Reads as visit-reads
 use Rattle.ends.proofs.bad_row_due.Reads as bad-row-due-reads
 use Rattle.ends.proofs.bad_second_due.Reads as bad-second-due-reads
 use Rattle.ends.proofs.came.Reads as came-reads

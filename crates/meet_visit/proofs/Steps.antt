@@ -1,30 +1,25 @@
--- What the code does with two good rows is what the definition does: the node that splits does so at an inner point, so its
--- children's rows have room, and refusal 11 never comes. A bad row, and boxes apart, decide a visit without it.
-use mathlib.Core.Path.{_≡_, refl, sym, _∙_}
-use mathlib.Core.Bool.{Bool, true, false, not, cond, _&&_, _||_}
+-- What the code does with two good rows is what the definition does: the node that splits does so at an inner point, so
+-- its children's rows have room, and refusal 11 never comes. A bad row decides a visit without it.
+use mathlib.Core.Path.{_≡_, refl, sym}
+use mathlib.Core.Bool.{Bool, true, false, not, cond, _&&_}
 use mathlib.Core.List.{List}
-use Prim.Native.Nat.{ℕ, _<_}
 use lib.Dec.{T, leb, leb→le, nleb→lt}
 use lib.IntN.{ℤ}
 use Rattle.whole.specs.Order.{yes-T}
 use Rattle.rules.specs.declared.Line.the-variants.{LineA, LineB}
-use Rattle.rules.specs.declared.Next.{Next}
-use Rattle.rules.specs.declared.Next.the-variants.{Left, Spent}
 use Rattle.rules.specs.declared.Pair.{Pair}
 use Rattle.rules.specs.declared.Row.{Row}
-use Rattle.rules.specs.declared.Tally.{Tally}
 use Rattle.rules.specs.Plain.{share}
 use Rattle.rules.specs.Rows.{good}
 use Rattle.rules.specs.Tree.{rowAt}
-use Rattle.rules.specs.Walk.{next, Visit, refuse, finish, pass, over, onVisit, walk}
-use Rattle.rules.specs.Questions.{Nothing, leaf, size, splitIn, openNode, startOf, endOf, headingOf, boxesApart, stripApart, apart, meetVisit}
-use Rattle.visits.proofs.Levels.{none-left, visited}
+use Rattle.rules.specs.Walk.{Visit, refuse, finish, pass}
+use Rattle.rules.specs.Questions.{Nothing, leaf, size, splitIn, openNode, startOf, endOf, headingOf, apart, meetVisit}
 use Rattle.visits.proofs.Nodes.{larger-opens, other-opens}
 use Rattle.row.proofs.Places.{opens}
-use Rattle.meet_walk.specs.declared.Step.{Step}
-use Rattle.meet_walk.specs.Pairs.{Read}
-use Rattle.meet_walk.specs.Said.{stepVisit, SplitsInside, halvesA, halvesB, compared}
-use Rattle.meet_walk.proofs.GoodRows.{split-inside}
+use Rattle.meet_visit.specs.declared.Step.{Step}
+use Rattle.meet_visit.specs.Pairs.{Read}
+use Rattle.meet_visit.specs.Said.{stepVisit, SplitsInside, halvesA, halvesB, compared}
+use Rattle.meet_visit.proofs.GoodRows.{split-inside}
 
 -- the definition, after both rows are read and good
 abbrev pub comparedVisit : List ℤ → Row → List ℤ → Row → Pair → Visit Nothing Pair
@@ -53,10 +48,10 @@ module _ {ps qs : List ℤ} {r q : Row} (n : Pair) (a : Read ps r (n .a)) (b : R
 
 -- ---------------- what a visit comes to, by which row is bad
 module _ (ps t qs t′ : List ℤ) (n : Pair) where
-  abbrev goodA : Bool
+  abbrev pub goodA : Bool
   goodA = good ps (rowAt t (n .a .row)) (n .a .first) (n .a .last)
 
-  abbrev goodB : Bool
+  abbrev pub goodB : Bool
   goodB = good qs (rowAt t′ (n .b .row)) (n .b .first) (n .b .last)
 
   abbrev byRows : Bool → Bool → Visit Nothing Pair
@@ -76,26 +71,3 @@ module _ (ps t qs t′ : List ℤ) (n : Pair) where
       → comparedVisit ps (rowAt t (n .a .row)) qs (rowAt t′ (n .b .row)) n ≡ meetVisit ps t qs t′ n
   unfolding meetVisit
   both-good h k = let g = yes-T goodA h in let e = yes-T goodB k in sym (λ i. byRows (g i) (e i))
-
-  -- boxes apart dismiss the pair, whatever the strips say
-  pub boxes-dismiss : T goodA → T goodB → boxesApart (rowAt t (n .a .row)) (rowAt t′ (n .b .row)) ≡ true
-      → pass (λ k. k) ≡ meetVisit ps t qs t′ n
-  unfolding apart
-  boxes-dismiss h k e =
-      let r = rowAt t (n .a .row) in
-      let q = rowAt t′ (n .b .row) in
-      let strips = stripApart r (startOf ps (n .a)) (headingOf ps (n .a)) q in
-      let others = stripApart q (startOf qs (n .b)) (headingOf qs (n .b)) r in
-      sym (λ i. cond (e i || strips || others) (pass (λ k. k))
-      (cond (leaf (n .a) && leaf (n .b)) (cond (share (startOf ps (n .a)) (endOf ps (n .a)) (startOf qs (n .b)) (endOf qs (n .b))) finish (pass (λ k. k)))
-      (cond (leb (size (n .b)) (size (n .a))) (openNode LineA ps (n .a) (splitIn r) (halvesA n)) (openNode LineB qs (n .b) (splitIn q) (halvesB n)))))
-      ∙ both-good h k
-
--- a visit that dismisses the pair that a walk starts from is the walk
-pub dismissed : {N : Type 0} (visit : N → Visit Nothing N) (n : N) (y : Tally) (f : ℕ) → 0 < f → pass (λ k. k) ≡ visit n
-    → onVisit (next y) (λ v. over tt v) ≡ walk visit f n tt y
-dismissed visit n y f h q = by (next y) refl
-  where
-    by : (m : Next) → next y ≡ m → onVisit m (λ v. over tt v) ≡ walk visit f n tt y
-    by (Left v) e = visited visit n tt y f h e q
-    by Spent e = none-left visit n tt y f h e

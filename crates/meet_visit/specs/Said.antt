@@ -1,7 +1,7 @@
--- What the values of `meet_walk` say, in the words of the definitions, and the parts of one visit.
-use mathlib.Core.Bool.{Bool, cond, _&&_}
+-- What the values of `meet_visit` say, in the words of the definitions, and the parts of one visit.
+use mathlib.Core.Bool.{cond, _&&_}
 use mathlib.Core.List.{List}
-use Prim.Native.Nat.{ℕ, _+_, _<_}
+use Prim.Native.Nat.{_<_}
 use lib.Dec.{leb}
 use lib.IntN.{ℤ}
 use Rattle.rules.specs.declared.Node.{Node}
@@ -11,8 +11,8 @@ use Rattle.rules.specs.declared.Row.{Row}
 use Rattle.rules.specs.Plain.{share}
 use Rattle.rules.specs.Walk.{Visit, finish, pass, halve}
 use Rattle.rules.specs.Questions.{Nothing, leaf, size, leftOf, rightOf, splitIn, startOf, endOf, headingOf, apart}
-use Rattle.meet_walk.specs.declared.Step.{Step}
-use Rattle.meet_walk.specs.declared.Step.the-variants.{Finish, Pass, HalveA, HalveB}
+use Rattle.meet_visit.specs.declared.Step.{Step}
+use Rattle.meet_visit.specs.declared.Step.the-variants.{Finish, Pass, HalveA, HalveB}
 
 -- a pair is halved by the halves of its node of A, or of B
 abbrev pub halvesA : Pair → Node → Node → Visit Nothing Pair
@@ -34,15 +34,6 @@ SplitsInside n Finish = Unit {0}
 SplitsInside n Pass = Unit {0}
 SplitsInside n (HalveA s) = (n .a .first < s) × (s < n .a .last)
 SplitsInside n (HalveB s) = (n .b .first < s) × (s < n .b .last)
-
--- the pair that a walk is handed as numbers
-abbrev pub pairOf : ℕ → ℕ → ℕ → ℕ → ℕ → ℕ → Pair
-pairOf row first last row′ first′ last′ =
-    record { a = record { row = row; first = first; last = last }; b = record { row = row′; first = first′; last = last′ } }
-
--- the segments of a pair: fewer in each half
-abbrev pub segments : Pair → ℕ
-segments n = size (n .a) + size (n .b)
 
 -- ---------------- the parts of one visit, in its order
 -- two leaves get the exact test

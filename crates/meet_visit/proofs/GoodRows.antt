@@ -8,7 +8,7 @@ use Rattle.rules.specs.Questions.{splitIn, startOf, endOf, headingOf}
 use Rattle.visits.proofs.Nodes.{GoodRow, good-read}
 use Rattle.visits.specs.Small.{OnSheet}
 use Rattle.apart.specs.Placed.{Placed}
-use Rattle.meet_walk.specs.Pairs.{HasSplit, Read}
+use Rattle.meet_visit.specs.Pairs.{HasSplit, Read}
 use Rattle.visits.proofs.OnSheets.{between-abs, on-sheet}
 use Rattle.visits.proofs.Sizes.{direction-small}
 

@@ -5,8 +5,8 @@ use Prim.Native.Nat.{_+_}
 use borrow.Author.Tests.{le-leb, lt-leb}
 use Rattle.rules.specs.Questions.{leaf}
 use borrow.Author.Needs.{needs}
-use Rattle.meet_walk.proofs.both_leaves.Statement.{statement}
-use Rattle.meet_walk.proofs.both_leaves.Tie as tie
+use Rattle.meet_visit.proofs.both_leaves.Statement.{statement}
+use Rattle.meet_visit.proofs.both_leaves.Tie as tie
 
 add-if1 : tie.Need-add-if1
 add-if1 c = search needs

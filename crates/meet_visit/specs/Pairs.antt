@@ -1,4 +1,4 @@
--- What the functions of `meet_walk` may count on: nodes that lie inside their lines and tables, with good rows.
+-- What the functions of `meet_visit` may count on: nodes that lie inside their lines and tables, with good rows.
 use mathlib.Core.List.{List}
 use Prim.Native.Nat.{_+_, _<_}
 use lib.Dec.{T}

@@ -2,10 +2,10 @@
 use mathlib.Core.Path.{_≡_, sym, _∙_}
 use mathlib.Core.Bool.{true, false, cond}
 use Rattle.rules.specs.Plain.{share}
-use Rattle.meet_walk.specs.declared.Step.the-variants.{Finish, Pass}
+use Rattle.meet_visit.specs.declared.Step.the-variants.{Finish, Pass}
 use borrow.Author.Needs.{needs}
-use Rattle.meet_walk.proofs.test.Statement.{statement}
-use Rattle.meet_walk.proofs.test.Tie as tie
+use Rattle.meet_visit.proofs.test.Statement.{statement}
+use Rattle.meet_visit.proofs.test.Tie as tie
 
 share-requires : tie.Need-share-requires
 share-requires c κs = search needs

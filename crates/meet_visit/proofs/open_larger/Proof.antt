@@ -6,10 +6,10 @@ use native.Mathlib.Omega.{arith}
 use borrow.Author.Tests.{le-leb, lt-leb}
 use Rattle.rules.specs.Questions.{size, splitIn}
 use Rattle.visits.proofs.Nodes.{larger-opens, other-opens}
-use Rattle.meet_walk.specs.declared.Step.the-variants.{HalveA, HalveB}
+use Rattle.meet_visit.specs.declared.Step.the-variants.{HalveA, HalveB}
 use borrow.Author.Needs.{needs}
-use Rattle.meet_walk.proofs.open_larger.Statement.{statement}
-use Rattle.meet_walk.proofs.open_larger.Tie as tie
+use Rattle.meet_visit.proofs.open_larger.Statement.{statement}
+use Rattle.meet_visit.proofs.open_larger.Tie as tie
 
 sub-if1 : tie.Need-sub-if1
 sub-if1 c = search needs

@@ -9,13 +9,13 @@ use Rattle.rules.specs.declared.Row.{Row}
 use Rattle.rules.specs.Plane.{direction}
 use Rattle.rules.specs.Questions.{leaf, startOf, endOf, apart}
 use Rattle.visits.specs.Small.{OnSheet}
-use Rattle.meet_walk.specs.declared.Step.the-variants.{Pass}
+use Rattle.meet_visit.specs.declared.Step.the-variants.{Pass}
 use Rattle.apart.specs.Placed.{Placed}
-use Rattle.meet_walk.specs.Said.{tested, opened}
-use Rattle.meet_walk.proofs.GoodRows.{start-on, end-on, placed, has-split}
+use Rattle.meet_visit.specs.Said.{tested, opened}
+use Rattle.meet_visit.proofs.GoodRows.{start-on, end-on, placed, has-split}
 use borrow.Author.Needs.{needs}
-use Rattle.meet_walk.proofs.compare.Statement.{statement}
-use Rattle.meet_walk.proofs.compare.Tie as tie
+use Rattle.meet_visit.proofs.compare.Statement.{statement}
+use Rattle.meet_visit.proofs.compare.Tie as tie
 
 -- what is asked of the points read is asked of the points of the line
 told-apart : (r q : Row) {s e u s′ e′ u′ S E S′ E′ : Point} {b : Bool}

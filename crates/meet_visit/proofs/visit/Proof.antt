@@ -3,12 +3,12 @@ use mathlib.Core.Path.{sym, _∙_, ap, subst}
 use Rattle.rules.specs.declared.Row.{Row}
 use Rattle.rules.specs.Rows.{good}
 use lib.Dec.{T}
-use Rattle.meet_walk.specs.Pairs.{Read}
-use Rattle.meet_walk.specs.Said.{stepVisit, SplitsInside}
-use Rattle.meet_walk.proofs.Steps.{comparedVisit, compared-does, both-good}
+use Rattle.meet_visit.specs.Pairs.{Read}
+use Rattle.meet_visit.specs.Said.{stepVisit, SplitsInside}
+use Rattle.meet_visit.proofs.Steps.{comparedVisit, compared-does, both-good}
 use borrow.Author.Needs.{needs}
-use Rattle.meet_walk.proofs.visit.Statement.{statement}
-use Rattle.meet_walk.proofs.visit.Tie as tie
+use Rattle.meet_visit.proofs.visit.Statement.{statement}
+use Rattle.meet_visit.proofs.visit.Tie as tie
 
 row-at-requires : tie.Need-row-at-requires
 row-at-requires c κs = search needs

@@ -1,0 +1,3 @@
+-- What the contracts of `meet_visit` are said with.
+pub mod Pairs
+pub mod Said

@@ -1,0 +1,13 @@
+-- The pair that a walk is handed as numbers.
+use Prim.Native.Nat.{ℕ, _+_}
+use Rattle.rules.specs.declared.Pair.{Pair}
+use Rattle.rules.specs.Questions.{size}
+
+-- a node of A and a node of B, each by its row and its range of points
+abbrev pub pairOf : ℕ → ℕ → ℕ → ℕ → ℕ → ℕ → Pair
+pairOf row first last row′ first′ last′ =
+    record { a = record { row = row; first = first; last = last }; b = record { row = row′; first = first′; last = last′ } }
+
+-- the segments of a pair: fewer in each half
+abbrev pub segments : Pair → ℕ
+segments n = size (n .a) + size (n .b)
