@@ -537,7 +537,7 @@ module _ (t : ℕ) where
       (range-in (high-standsA o), (low .end-on, tellsA s .end-on))
 
   bad-row-due-requires-2 : walk-lts.Need-bad-row-due-requires-2 (claims t) (walk-at t) walk.Post
-  bad-row-due-requires-2 c κs = row-small (high-standsA (openedA (nextA (c .before))))
+  bad-row-due-requires-2 c κs = let k = row-small (high-standsA (openedA (nextA (c .before)))) in omega arith
 
   returns-4 : walk-lts.Need-returns-4 (claims t) (walk-at t) walk.Post
   returns-4 c f h =
@@ -636,7 +636,7 @@ module _ (t : ℕ) where
       (range-in (high-standsB o), (low .end-on, tellsB s .end-on))
 
   bad-second-due-requires-2 : walk-lts.Need-bad-second-due-requires-2 (claims t) (walk-at t) walk.Post
-  bad-second-due-requires-2 c κs = row-small (high-standsB (openedB (nextB (c .before))))
+  bad-second-due-requires-2 c κs = let k = row-small (high-standsB (openedB (nextB (c .before)))) in omega arith
 
   returns-7 : walk-lts.Need-returns-7 (claims t) (walk-at t) walk.Post
   returns-7 c f h =
