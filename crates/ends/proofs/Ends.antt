@@ -1,7 +1,7 @@
 -- What is put into the number that a walk comes to is read out of it, and a walk that stopped stays as it is.
 use mathlib.Core.Path.{_≡_, refl, sym, _∙_, ap}
 use mathlib.Core.Bool.{Bool, true, false, cond}
-use Prim.Native.Nat.{ℕ, _+_, _-_, _<_, _≤_}
+use Prim.Native.Nat.{ℕ, zero, suc, _+_, _-_, _<_, _≤_}
 use native.Mathlib.Omega.{arith}
 use borrow.Author.Tests.{ltb-true, lt-ltb, le-ltb, eq-eqb, ne-eqb, eqb-false, leb-false, leb-true}
 use lib.Dec.{leb, ltb, eqb}
@@ -10,7 +10,8 @@ use Rattle.rules.specs.declared.Tally.{Tally}
 use Rattle.rules.specs.declared.Next.{Next}
 use Rattle.rules.specs.declared.Next.the-variants.{Left, Spent}
 use Rattle.rules.specs.Walk.{next, Walked, ended, over, spent, refused, goOn}
-use Rattle.ends.specs.Came.{half, came, visitsIn, endIn, ENDED, badRow, badSecond, refusalAt, refusalIn, tallyIn, cameTo}
+use Rattle.ends.specs.Came.{half, came, visitsIn, endIn, ENDED, overAt, badRow, badSecond, oddIn, refusalAt, refusalIn}
+use Rattle.ends.specs.Came.{tallyIn, cameTo}
 
 pub visits-in : (v e : ℕ) → e < half → visitsIn (came v e) ≡ v
 visits-in v e small = omega arith
@@ -144,3 +145,18 @@ module _ {S : Type 0} (even odd : S) (l m : Line) (allowance : ℕ) where
             let some = eqb-false (endIn r) 0 e in
             let one : eqb (endIn r) 1 ≡ true = eq-eqb (endIn r) 1 (omega (arith, some)) in
             (λ i. goOn (byTests false (one i) (eqb (endIn r) 2) (eqb (endIn r) 3)) go)
+
+-- ---------------- where even and odd are the count: it is put in and read out as whether it is odd
+module _ (l m : Line) (allowance : ℕ) where
+  pub reads-over : (v : ℕ) (odd : Bool)
+      → cameTo false true l m allowance (came v (overAt odd)) ≡ over odd (record { allowance = allowance; visits = v })
+  reads-over v true = reads-odd false true l m allowance v
+  reads-over v false = reads-even false true l m allowance v
+
+  pub is-over : (r : ℕ) → endIn r < ENDED → cameTo false true l m allowance r ≡ over (oddIn r) (tallyIn allowance r)
+  is-over r small = by (endIn r) refl
+    where
+      by : (k : ℕ) → endIn r ≡ k → cameTo false true l m allowance r ≡ over (eqb k 1) (tallyIn allowance r)
+      by zero e = is-even false true l m allowance r e
+      by (suc zero) e = is-odd false true l m allowance r e
+      by (suc (suc k)) e = absurd (omega arith)

@@ -41,7 +41,10 @@ badRow = 4
 abbrev pub badSecond : ℕ
 badSecond = 65536
 
--- whether a walk that is over has an odd count
+-- a walk that is over, by whether its count is odd, and whether it is
+abbrev pub overAt : Bool → ℕ
+overAt odd = cond odd ODD EVEN
+
 abbrev pub oddIn : ℕ → Bool
 oddIn r = eqb (endIn r) ODD
 

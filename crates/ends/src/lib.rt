@@ -6,12 +6,13 @@ use rules::Next;
 use rules::Refusal;
 use rules::Tally;
 ghost use mathlib.Core.Path.{_≡_};
-ghost use Prim.Native.Nat.{_+_, _-_, _<_, _≤_};
+ghost use Prim.Native.Nat.{_+_, _<_, _≤_};
 ghost use lib.Dec.{leb};
 ghost use Rattle.rules.specs.Reply.{answerReply};
 ghost use Rattle.rules.specs.Walk.{next};
 ghost use Rattle.rules.specs.Questions.{yesOrNo};
-ghost use Rattle.ends.specs.Came.{half, came, visitsIn, endIn, ENDED, badRow, badSecond, refusalIn, tallyIn, due, cameTo};
+ghost use Rattle.ends.specs.Came.{came, visitsIn, endIn, ENDED, overAt, badRow, badSecond, oddIn, refusalIn};
+ghost use Rattle.ends.specs.Came.{tallyIn, due, cameTo};
 
 // How a walk ended: over, with an even count,
 pub const EVEN: u32 = 0;
@@ -61,20 +62,18 @@ pub fn tally_in(allowance: u32, came: u64) -> Tally
     }
 }
 
-// A walk so far is such a number as well, over with an even or an odd count. This is the same after one visit more.
-pub fn visited(made: u64) -> u64
-    requires { ⌜ visitsIn made + 1 < half ⌝ }
-    ensures { λ r. ⌜ r ≡ came (visitsIn made + 1) (endIn made) ⌝ }
+// Whether a walk that is over counted an odd number.
+pub fn odd_in(came: u64) -> bool
+    ensures { λ r. ⌜ r ≡ oddIn came ⌝ }
 {
-    made + came(1, EVEN)
+    end_in(came) == ODD
 }
 
-// The same with a count that is odd where it was even, and even where it was odd.
-pub fn flipped(made: u64) -> u64
-    requires { ⌜ endIn made < ENDED ⌝ }
-    ensures { λ r. ⌜ r ≡ came (visitsIn made) (1 - endIn made) ⌝ }
+// Over after these visits, with an odd count or an even one.
+pub fn over(visits: u32, odd: bool) -> u64
+    ensures { λ r. ⌜ r ≡ came visits (overAt odd) ⌝ }
 {
-    made ^ 1
+    came(visits, odd as u32)
 }
 
 // Refused for a bad row of the first line.

@@ -28,14 +28,14 @@ ghost use lib.Signed.{ltZ};
 ghost use Rattle.rules.specs.Build.{holdsNumber};
 ghost use Rattle.rules.specs.Plane.{direction};
 ghost use Rattle.rules.specs.Plain.{rangeHolds, onSegment, lowHigh, sideOf, crosses};
-ghost use Rattle.rules.specs.Questions.{leaf, outside, clearOf, count, inVisit, inWalk, sideOfRing, inReply};
+ghost use Rattle.rules.specs.Questions.{leaf, outside, clearOf, inVisit, inWalk, sideOfRing, inReply};
 ghost use Rattle.rules.specs.Reply.{sideReply};
 ghost use Rattle.rules.specs.Rows.{ringCheck};
-ghost use Rattle.rules.specs.Walk.{over, fresh, walk};
+ghost use Rattle.rules.specs.Walk.{fresh, walk};
 ghost use Rattle.visits.specs.Small.{OnSheet, Small};
 ghost use Rattle.line.specs.Fine.{LengthsFine};
 ghost use Rattle.row.specs.Stands.{Stands, EndsOn};
-ghost use Rattle.ends.specs.Came.{endIn, ENDED, oddIn, tallyIn, cameTo};
+ghost use Rattle.ends.specs.Came.{cameTo};
 ghost use Rattle.inside.specs.Said.{leafStep, innerStep, stepVisit, SplitsInside};
 
 // Whether v lies between lo and hi.
@@ -235,52 +235,48 @@ fn visit(points: &[i32], table: &[i32], node: Node, z: Point) -> Step
     visit_inner(points, table, node, z)
 }
 
-// Counts are added; only odd or even matters.
-fn add(made: u64, crossed: bool) -> u64
-    requires { ⌜ endIn made < ENDED ⌝ }
-    ensures { λ r. ⌜ ((allowance : ℕ) → cameTo false true Line.LineA Line.LineA allowance r ≡ over (count crossed (oddIn made)) (tallyIn allowance made)) ⌝ }
-{
-    if crossed {
-        return ends::flipped(made);
-    }
-    made
-}
-
-// The walk of a node: the left half, then the right half, with the visits made and the count handed on as one number. Plain
-// numbers and thin references stay in registers. A split off the sheet makes the left half's row bad.
+// The walk of a node, with the count so far and the tally: the left half, then the right half with what the left half came
+// to. Counts are added; only odd or even matters. A split off the sheet makes the left half's row bad. Plain numbers and thin
+// references stay in registers.
 fn walk(
     points: &&[i32],
     table: &&[i32],
     row: usize,
     first: usize,
     last: usize,
-    so_far: u64,
+    odd: bool,
     x: i64,
     y: i64,
-    allowance: u32,
+    tally: Tally,
 ) -> u64
-    requires { ⌜ Stands (now (now points)) (now (now table)) (record { row = row; first = first; last = last }) × EndsOn (now (now points)) (record { row = row; first = first; last = last }) × OnSheet (record { x = x; y = y }) × (endIn «so_far» < ENDED) ⌝ }
-    ensures { λ r. ⌜ ((f : ℕ) → last ≤ f + first → cameTo false true Line.LineA Line.LineA allowance r ≡ walk (inVisit (now (now (points .entry))) (now (now (table .entry))) (record { x = x; y = y })) f (record { row = row; first = first; last = last }) (oddIn «so_far») (tallyIn allowance «so_far»)) ⌝ }
+    requires { ⌜ Stands (now (now points)) (now (now table)) (record { row = row; first = first; last = last })
+        × EndsOn (now (now points)) (record { row = row; first = first; last = last })
+        × OnSheet (record { x = x; y = y }) ⌝ }
+    ensures { λ r. ⌜ ((f : ℕ) → last ≤ f + first
+        → cameTo false true Line.LineA Line.LineA (tally .allowance) r
+        ≡ walk (inVisit (now (now (points .entry))) (now (now (table .entry))) (record { x = x; y = y })) f
+        (record { row = row; first = first; last = last }) odd tally) ⌝ }
 {
-    let Next::Left(counted) = ends::tally_in(allowance, so_far).visit() else {
+    let Next::Left(counted) = tally.visit() else {
         return ends::came(0, ends::SPENT);
     };
-    let made = ends::visited(so_far);
     match visit(*points, *table, Node { row, first, last }, Point { x, y }) {
         Step::Bad => ends::bad_row(counted.visits, row),
         Step::Finish => ends::came(counted.visits, ends::ENDED),
-        Step::Pass(crossed) => add(made, crossed),
+        Step::Pass(crossed) => ends::over(counted.visits, odd ^ crossed),
         Step::Halve(mid) => {
             let next = row + 1;
             if !on_sheet(point_at(*points, mid)) {
                 return ends::bad_row_due(counted, next);
             }
-            let left = walk(points, table, next, first, mid, made, x, y, allowance);
+            let left = walk(points, table, next, first, mid, odd, x, y, counted);
             if ends::stopped(left) {
                 return left;
             }
             let right = row + 2 * (mid - first);
-            walk(points, table, right, mid, last, left, x, y, allowance)
+            let odd_left = ends::odd_in(left);
+            let tally_left = ends::tally_in(counted.allowance, left);
+            walk(points, table, right, mid, last, odd_left, x, y, tally_left)
         }
     }
 }
@@ -290,15 +286,15 @@ fn ask(points: &&[i32], table: &&[i32], z: Point, allowance: u32) -> u64
     requires { ⌜ LengthsFine (now (now points)) (now (now table)) × OnSheet z ⌝ }
     ensures { λ r. ⌜ cameTo false true Line.LineA Line.LineA allowance r ≡ inWalk (now (now (points .entry))) (now (now (table .entry))) z (fresh allowance) ⌝ }
 {
+    let fresh = Tally {
+        allowance,
+        visits: 0,
+    };
     if !row::ends_on_sheet(*points) {
-        let fresh = Tally {
-            allowance,
-            visits: 0,
-        };
         return ends::bad_row_due(fresh, 0);
     }
     let last = points.len() / 2 - 1;
-    walk(points, table, 0, 0, last, 0, z.x, z.y, allowance)
+    walk(points, table, 0, 0, last, false, z.x, z.y, fresh)
 }
 
 // Refusal 9: fewer than 4 points, or first and last differ.

@@ -1,11 +1,11 @@
 -- `walk` takes one level of the written walk. The number of segments in the range falls. A split off the sheet is refused
 -- in place of the left half, whose row it makes bad.
 use mathlib.Core.Path.{_≡_, refl, sym, _∙_, ap, subst}
-use mathlib.Core.Bool.{Bool, true, false}
+use mathlib.Core.Bool.{Bool, true, false, not, Bool·beq}
 use Prim.Native.Nat.{ℕ, pred, _+_, _-_, _<_, _≤_}
 use native.Mathlib.Omega.{arith}
 use borrow.Author.Tests.{leb-false, not-true, not-false}
-use lib.Dec.{T, eqb, leb}
+use lib.Dec.{T, leb}
 use Rattle.whole.specs.Order.{T-true}
 use Rattle.rules.specs.declared.Line.the-variants.{LineA}
 use Rattle.rules.specs.declared.Node.{Node}
@@ -17,9 +17,8 @@ use Rattle.rules.specs.Walk.{next, Visit, Walked, ended, over, goOn}
 use Rattle.rules.specs.Walk.{walk as writtenWalk}
 use Rattle.rules.specs.Questions.{leftOf, rightOf, count, inVisit}
 use Rattle.visits.proofs.Levels.{none-left, visited, halved}
-use Rattle.ends.specs.Came.{endIn, ODD, ENDED, badRow, oddIn, tallyIn, due, cameTo}
-use Rattle.ends.proofs.Ends.{end-in, next-left, keeps, reads-ended, reads-spent, reads-bad, stops}
-use Rattle.ends.proofs.SoFar.{next-made, is-over}
+use Rattle.ends.specs.Came.{endIn, ENDED, badRow, tallyIn, due, cameTo}
+use Rattle.ends.proofs.Ends.{keeps, reads-over, reads-ended, reads-spent, reads-bad, stops, is-over}
 use Rattle.row.proofs.Parts.{end-off}
 use Rattle.row.proofs.Places.{row-small, split-small, left-stands, right-stands, left-ends, right-ends}
 use Rattle.ends.proofs.Dues.{due-stops, reads-bad-due}
@@ -34,19 +33,26 @@ use borrow.Author.Needs.{needs}
 use Rattle.inside.proofs.walk.Reads as walk
 use Rattle.inside.proofs.walk.Kinds as walk-kinds
 use Rattle.inside.proofs.+walk.Lts-walk as walk-lts
-use Rattle.inside.proofs.add.Reads as add-reads
 use Rattle.inside.proofs.visit.Reads as visit-reads
 use Rattle.line.proofs.on_sheet.Reads as on-sheet-reads
 use Rattle.line.proofs.point_at.Reads as point-at-reads
 use Rattle.ends.proofs.bad_row.Reads as bad-row-reads
 use Rattle.ends.proofs.bad_row_due.Reads as bad-row-due-reads
 use Rattle.ends.proofs.came.Reads as came-reads
+use Rattle.ends.proofs.odd_in.Reads as odd-in-reads
+use Rattle.ends.proofs.over.Reads as over-reads
 use Rattle.ends.proofs.stopped.Reads as stopped-reads
 use Rattle.ends.proofs.tally_in.Reads as tally-in-reads
-use Rattle.ends.proofs.visited.Reads as visited-reads
 use Rattle.rules.proofs.Tally.visit.Reads as Tally-visit-reads
 use Rattle.inside.proofs.+walk.{statement}
 use Rattle.inside.proofs.+walk.Tie.{close}
+
+-- the count after a visit that crosses, or not
+one-more : (odd crossed : Bool) → not (Bool·beq odd crossed) ≡ count crossed odd
+one-more true true = refl
+one-more true false = refl
+one-more false true = refl
+one-more false false = refl
 
 abbrev μ-walk : Measures 4 walk-kinds.ps ℕ
 μ-walk κs a = a .1 .1 .1 .1 .0 - a .1 .1 .1 .0
@@ -60,20 +66,16 @@ walk-below t = and 4 walk-kinds.ps (falls 4 walk-kinds.ps _<_ μ-walk t) walk.Pr
 -- what is known of the functions that it calls
 abbrev claims : ℕ → walk-lts.Claims
 claims t = (
-  tally-in-reads.Asked,
-  tally-in-reads.Learnt,
   Tally-visit-reads.Asked,
   Tally-visit-reads.Learnt,
   came-reads.Asked,
   came-reads.Learnt,
-  visited-reads.Asked,
-  visited-reads.Learnt,
   visit-reads.Asked,
   visit-reads.Learnt,
   bad-row-reads.Asked,
   bad-row-reads.Learnt,
-  add-reads.Asked,
-  add-reads.Learnt,
+  over-reads.Asked,
+  over-reads.Learnt,
   point-at-reads.Asked,
   point-at-reads.Learnt,
   on-sheet-reads.Asked,
@@ -84,19 +86,20 @@ claims t = (
   walk.Post,
   stopped-reads.Asked,
   stopped-reads.Learnt,
+  odd-in-reads.Asked,
+  odd-in-reads.Learnt,
+  tally-in-reads.Asked,
+  tally-in-reads.Learnt,
 )
 
 module _ (t : ℕ) where
-  -- the places of the code: at its start, once a visit is left, once it is counted and made, at a split, once its point is
+  -- the places of the code: at its start, once a visit is left, once it is made, at a split, once its point is
   -- looked at, and once the left half is walked
   abbrev Start : Type 0
   Start = walk-lts.Start (claims t) (walk-at t) walk.Post
 
   abbrev Unspent : Type 0
   Unspent = walk-lts.After-known-told (claims t) (walk-at t) walk.Post
-
-  abbrev Counted : Type 0
-  Counted = walk-lts.After-visited (claims t) (walk-at t) walk.Post
 
   abbrev Seen : Type 0
   Seen = walk-lts.After-visit2 (claims t) (walk-at t) walk.Post
@@ -111,13 +114,13 @@ module _ (t : ℕ) where
   LeftWalked = walk-lts.After-walk (claims t) (walk-at t) walk.Post
 
   abbrev from : Unspent → Start
-  from c = c .before .before .before .before .before
+  from c = c .before .before .before .before
 
-  abbrev counted : Seen → Counted
-  counted c = c .before .before .before
+  abbrev unspent : Seen → Unspent
+  unspent c = c .before .before .before
 
   abbrev start : Seen → Start
-  start c = from (counted c .before)
+  start c = from (unspent c)
 
   abbrev seen : Split → Seen
   seen c = c .before .before .before
@@ -128,7 +131,7 @@ module _ (t : ℕ) where
   abbrev looking : LeftWalked → Looked
   looking c = c .before .before
 
-  -- the node and the point that the numbers make, and what the number so far is read as
+  -- the node and the point that the numbers make, the count so far and the tally
   module _ (s : Start) where
     abbrev node : Node
     node = record { row = s .args .row; first = s .args .first; last = s .args .last }
@@ -137,13 +140,10 @@ module _ (t : ℕ) where
     z = record { x = s .args .x; y = s .args .y }
 
     abbrev odd : Bool
-    odd = oddIn (s .args .so-far)
-
-    abbrev tallyOf : ℕ → Tally
-    tallyOf = tallyIn (s .args .allowance)
+    odd = s .args .odd
 
     abbrev tally : Tally
-    tally = tallyOf (s .args .so-far)
+    tally = s .args .tally
 
     -- what a visit of a node does, the written walk from the node, and what a number is read as
     abbrev doesAt : Point → Node → Visit Bool Node
@@ -156,7 +156,7 @@ module _ (t : ℕ) where
     walks f = writtenWalk does f node odd tally
 
     abbrev read : ℕ → Walked Bool
-    read = cameTo false true LineA LineA (s .args .allowance)
+    read = cameTo false true LineA LineA (s .args .tally .allowance)
 
     -- the point's numbers are handed on as they are
     same : readBack z ≡ z
@@ -164,9 +164,6 @@ module _ (t : ℕ) where
 
     some-level : (f : ℕ) → s .args .last ≤ f + s .args .first → 0 < f
     some-level f h = omega (arith, s .pre .1 .0 .some-segment)
-
-  tally-in-requires : walk-lts.Need-tally-in-requires (claims t) (walk-at t) walk.Post
-  tally-in-requires c κs = search needs
 
   visit-requires : walk-lts.Need-visit-requires (claims t) (walk-at t) walk.Post
   visit-requires c κs = search needs
@@ -183,52 +180,28 @@ module _ (t : ℕ) where
   returns : walk-lts.Need-returns (claims t) (walk-at t) walk.Post
   returns c f h =
       let k = c .before .before .before in
-      let s = k .before .before in
+      let s = k .before in
       let told : k .visit .result ≡ Spent = cc in
-      let e = sym (k .visit .ensures ∙ ap next (k .before .tally-in .ensures)) ∙ told in
       ap (read s) (c .came .ensures)
       ∙ reads-spent false true LineA LineA _ 0
-      ∙ none-left (does s) (node s) (odd s) (tally s) f (some-level s f h) e
+      ∙ none-left (does s) (node s) (odd s) (tally s) f (some-level s f h) (sym (k .visit .ensures) ∙ told)
 
-  -- the tally of this visit
-  abbrev tallied : Unspent → Tally
-  tallied c = c .before .counted .given .0 .0
+  -- the tally that the visit gave back
+  abbrev counted : Unspent → Tally
+  counted c = c .before .counted .given .0 .0
 
-  left-one : (c : Unspent) → next (tally (from c)) ≡ Left (tallied c)
-  left-one c =
-      let k = c .before .before .before in sym (k .visit .ensures ∙ ap next (k .before .tally-in .ensures)) ∙ c .before .counted .given .1
+  left-one : (c : Unspent) → next (tally (from c)) ≡ Left (counted c)
+  left-one c = sym (c .before .before .before .visit .ensures) ∙ c .before .counted .given .1
 
-  visited-requires : walk-lts.Need-visited-requires (claims t) (walk-at t) walk.Post
-  visited-requires c κs =
-      let more = next-left (tally (from c)) (tallied c) (left-one c) in omega (arith, more, from c .fits .allowance .fits)
-
-  -- the number with this visit: its tally is the next one, and its count the same
-  abbrev number : Counted → ℕ
-  number c = c .visited .result
-
-  same-tally : (c : Counted) → tallied (c .before) ≡ tallyOf (from (c .before)) (number c)
-  same-tally c =
-      let s = from (c .before) in
-      next-made (s .args .allowance) (s .args .so-far) (tallied (c .before)) (left-one (c .before)) ∙ ap (tallyOf s) (sym (c .visited .ensures))
-
-  made : (c : Counted) → next (tally (from (c .before))) ≡ Left (tallyOf (from (c .before)) (number c))
-  made c = left-one (c .before) ∙ ap Left (same-tally c)
-
-  end-kept : (c : Counted) → endIn (number c) ≡ endIn (from (c .before) .args .so-far)
-  end-kept c = let small = from (c .before) .pre .1 .3 in ap endIn (c .visited .ensures) ∙ end-in _ _ (omega arith)
-
-  odd-kept : (c : Counted) → oddIn (number c) ≡ odd (from (c .before))
-  odd-kept c = ap (λ (e : ℕ). eqb e ODD) (end-kept c)
-
-  still-over : (c : Counted) → endIn (number c) < ENDED
-  still-over c = subst (λ (e : ℕ). e < ENDED) (sym (end-kept c)) (from (c .before) .pre .1 .3)
+  kept : (c : Unspent) → counted c .allowance ≡ tally (from c) .allowance
+  kept c = keeps (tally (from c)) (counted c) (left-one c)
 
   did : (c : Seen) {v : Step} → c .visit2 .result ≡ v → stepVisit (node (start c)) v ≡ does (start c) (node (start c))
   did c e =
       let s = start c in ap (stepVisit (node s)) (sym e) ∙ c .visit2 .ensures .0 ∙ (λ d. doesAt s (same s d) (node s))
 
   visit-requires-2 : walk-lts.Need-visit-requires-2 (claims t) (walk-at t) walk.Post
-  visit-requires-2 c κs = let s = from (c .before .before .before) in (s .pre .1 .0, s .pre .1 .1, stored-on (s .pre .1 .2))
+  visit-requires-2 c κs = let s = from (c .before .before) in (s .pre .1 .0, s .pre .1 .1, stored-on (s .pre .1 .2))
 
   enum-told-2 : walk-lts.Need-enum-told-2 (claims t) (walk-at t) walk.Post
   enum-told-2 c = search needs
@@ -245,8 +218,8 @@ module _ (t : ℕ) where
   enum-known-crossed : walk-lts.Need-enum-known-crossed (claims t) (walk-at t) walk.Post
   enum-known-crossed c = search needs
 
-  add-requires : walk-lts.Need-add-requires (claims t) (walk-at t) walk.Post
-  add-requires c κs = still-over (counted (c .before .before .before))
+  over-requires : walk-lts.Need-over-requires (claims t) (walk-at t) walk.Post
+  over-requires c κs = search needs
 
   enum-known-mid : walk-lts.Need-enum-known-mid (claims t) (walk-at t) walk.Post
   enum-known-mid c = search needs
@@ -284,16 +257,12 @@ module _ (t : ℕ) where
   abbrev onRight : Split → ℕ → Bool → Tally → Walked Bool
   onRight c f b v = let s = start (seen c) in writtenWalk (does s) (pred f) (rightOf (node s) (mid c)) b v
 
-  -- the tally with which the left half is walked
-  abbrev leftTally : Split → Tally
-  leftTally c = tallyOf (start (seen c)) (number (counted (seen c)))
-
   after-left : (c : Split) (f : ℕ) (left : ℕ) → start (seen c) .args .last ≤ f + start (seen c) .args .first
-      → read (start (seen c)) left ≡ writtenWalk (does (start (seen c))) (pred f) (leftOf (node (start (seen c))) (mid c)) (odd (start (seen c))) (leftTally c)
+      → read (start (seen c)) left ≡ writtenWalk (does (start (seen c))) (pred f) (leftOf (node (start (seen c))) (mid c)) (odd (start (seen c))) (counted (unspent (seen c)))
       → goOn (read (start (seen c)) left) (onRight c f) ≡ walks (start (seen c)) f
   after-left c f left h p =
       let s = start (seen c) in
-      halved (does s) (node s) (odd s) (tally s) f (some-level s f h) (made (counted (seen c))) (did (seen c) (c .before .mid .given .1)) p
+      halved (does s) (node s) (odd s) (tally s) f (some-level s f h) (left-one (unspent (seen c))) (did (seen c) (c .before .mid .given .1)) p
 
   returns-2 : walk-lts.Need-returns-2 (claims t) (walk-at t) walk.Post
   returns-2 c f h =
@@ -302,13 +271,17 @@ module _ (t : ℕ) where
       let s = start (seen o) in
       let i = inner o in
       let l = leftOf (node s) (mid o) in
-      let v = leftTally o in
+      let u = unspent (seen o) in
+      let v = counted u in
       let small = next-small o in
-      let e = c .bad-row-due .ensures ∙ ap (λ (y : Tally). due (next y) (badRow + l .row)) (same-tally (counted (seen o))) in
+      let e = c .bad-row-due .ensures in
       let off = end-off (s .args .points .now .now) _ (s .args .first) (mid o) (sym (looked k) ∙ not-true _ (c .before .if1 .taken)) in
       let bad = visit-bad (s .args .points .now .now) (s .args .table .now .now) (z s) l _ refl off in
       sym (stops false true LineA LineA _ (c .bad-row-due .result) _ (ap (λ r. leb ENDED (endIn r)) e ∙ due-stops (next v) (badRow + l .row) (omega arith) (omega arith)))
-      ∙ after-left o f (c .bad-row-due .result) h (ap (read s) e ∙ reads-bad-due false true LineA LineA (does s) l (odd s) v (pred f) (omega arith) (l .row) small bad)
+      ∙ after-left o f (c .bad-row-due .result) h
+      (ap (read s) e
+      ∙ ap (λ k. cameTo false true LineA LineA k (due (next v) (badRow + l .row))) (sym (kept u))
+      ∙ reads-bad-due false true LineA LineA (does s) l (odd s) v (pred f) (omega arith) (l .row) small bad)
 
   -- else both halves begin and end on the sheet
   split-on : (c : Looked) → c .on-sheet .result ≡ true → T (onSheet (point (start (seen (split c)) .args .points .now .now) (mid (split c))))
@@ -320,7 +293,7 @@ module _ (t : ℕ) where
       let s = start (seen o) in
       let h = inner o in
       let on = split-on (c .before) (not-false _ (c .if1 .left)) in
-      (omega (arith, s .pre .0), (left-stands (s .pre .1 .0) (h .0) (h .1), left-ends (s .pre .1 .1) on, stored-on (s .pre .1 .2), still-over (counted (seen (split (c .before))))))
+      (omega (arith, s .pre .0), (left-stands (s .pre .1 .0) (h .0) (h .1), left-ends (s .pre .1 .1) on, stored-on (s .pre .1 .2)))
 
   stopped-requires : walk-lts.Need-stopped-requires (claims t) (walk-at t) walk.Post
   stopped-requires c κs = search needs
@@ -331,8 +304,11 @@ module _ (t : ℕ) where
       let o = split (looking c) in
       let s = start (seen o) in
       let i = inner o in
+      let u = unspent (seen o) in
       after-left o f (c .walk .result) h
-      (c .walk .ensures (pred f) (omega arith) ∙ (λ d. writtenWalk (doesAt s (same s d)) (pred f) (leftOf (node s) (mid o)) (odd-kept (counted (seen o)) d) (leftTally o)))
+      (ap (λ k. cameTo false true LineA LineA k (c .walk .result)) (sym (kept u))
+      ∙ c .walk .ensures (pred f) (omega arith)
+      ∙ (λ d. writtenWalk (doesAt s (same s d)) (pred f) (leftOf (node s) (mid o)) (odd s) (counted u)))
 
   returns-3 : walk-lts.Need-returns-3 (claims t) (walk-at t) walk.Post
   returns-3 c f h =
@@ -360,14 +336,20 @@ module _ (t : ℕ) where
   left-over : (c : walk-lts.Else2 (claims t) (walk-at t) walk.Post) → endIn (c .before .before .walk .result) < ENDED
   left-over c = leb-false ENDED _ (sym (c .before .stopped .ensures) ∙ c .if2 .left)
 
+  odd-in-requires : walk-lts.Need-odd-in-requires (claims t) (walk-at t) walk.Post
+  odd-in-requires c κs = search needs
+
+  tally-in-requires : walk-lts.Need-tally-in-requires (claims t) (walk-at t) walk.Post
+  tally-in-requires c κs = search needs
+
   walk-requires-2 : walk-lts.Need-walk-requires-2 (claims t) (walk-at t) walk.Post
   walk-requires-2 c κs =
-      let w = c .before .before in
+      let w = c .before .before .before .before in
       let o = split (looking w) in
       let s = start (seen o) in
       let h = inner o in
       let on = split-on (looking w) (not-false _ (w .before .if1 .left)) in
-      (omega (arith, s .pre .0), (right-stands (s .pre .1 .0) (h .0) (h .1), right-ends (s .pre .1 .1) on, stored-on (s .pre .1 .2), left-over c))
+      (omega (arith, s .pre .0), (right-stands (s .pre .1 .0) (h .0) (h .1), right-ends (s .pre .1 .1) on, stored-on (s .pre .1 .2)))
 
   returns-4 : walk-lts.Need-returns-4 (claims t) (walk-at t) walk.Post
   returns-4 c f h =
@@ -376,17 +358,17 @@ module _ (t : ℕ) where
       let e : w .visit2 .result ≡ Bad = cc in
       ap (read s) (c .bad-row .ensures)
       ∙ reads-bad false true LineA LineA _ _ (s .args .row) (row-small (s .pre .1 .0))
-      ∙ visited (does s) (node s) (odd s) (tally s) f (some-level s f h) (left-one (counted w .before)) (did w e)
+      ∙ visited (does s) (node s) (odd s) (tally s) f (some-level s f h) (left-one (unspent w)) (did w e)
 
   returns-5 : walk-lts.Need-returns-5 (claims t) (walk-at t) walk.Post
   returns-5 c f h =
       let w = c .before .before .before in
       let s = start w in
-      let u = counted w .before in
+      let u = unspent w in
       let e : w .visit2 .result ≡ Finish = cc in
       ap (read s) (c .came2 .ensures)
       ∙ reads-ended false true LineA LineA _ _
-      ∙ ap (λ (k : ℕ). ended (record { allowance = k; visits = tallied u .visits })) (sym (keeps (tally s) (tallied u) (left-one u)))
+      ∙ ap (λ (k : ℕ). ended (record { allowance = k; visits = counted u .visits })) (sym (kept u))
       ∙ visited (does s) (node s) (odd s) (tally s) f (some-level s f h) (left-one u) (did w e)
 
   returns-6 : walk-lts.Need-returns-6 (claims t) (walk-at t) walk.Post
@@ -394,20 +376,26 @@ module _ (t : ℕ) where
       let k = c .before .before in
       let w = k .before .before in
       let s = start w in
-      c .add .ensures _
-      ∙ ap (λ (b : Bool). over (count (k .crossed .given .0 .0) b) (tallyOf s (number (counted w)))) (odd-kept (counted w))
-      ∙ visited (does s) (node s) (odd s) (tally s) f (some-level s f h) (made (counted w)) (did w (k .crossed .given .1))
+      let u = unspent w in
+      let crossed = k .crossed .given .0 .0 in
+      ap (read s) (c .over .ensures)
+      ∙ reads-over LineA LineA _ _ _
+      ∙ (λ d. over (one-more (odd s) crossed d) (record { allowance = sym (kept u) d; visits = counted u .visits }))
+      ∙ visited (does s) (node s) (odd s) (tally s) f (some-level s f h) (left-one u) (did w (k .crossed .given .1))
 
   returns-7 : walk-lts.Need-returns-7 (claims t) (walk-at t) walk.Post
   returns-7 c f h =
-      let e = c .before in
+      let e = c .before .before .before in
       let w = e .before .before in
       let o = split (looking w) in
       let s = start (seen o) in
       let i = inner o in
       let left = w .walk .result in
-      c .walk2 .ensures (pred f) (omega arith)
-      ∙ (λ d. writtenWalk (doesAt s (same s d)) (pred f) (rightOf (node s) (mid o)) (oddIn left) (tallyOf s left))
+      let odd-left = c .before .before .odd-in .ensures in
+      let tally-left = c .before .tally-in .ensures ∙ ap (λ k. tallyIn k left) (kept (unspent (seen o))) in
+      ap (λ (v : Tally). cameTo false true LineA LineA (v .allowance) (c .walk2 .result)) (sym tally-left)
+      ∙ c .walk2 .ensures (pred f) (omega arith)
+      ∙ (λ d. writtenWalk (doesAt s (same s d)) (pred f) (rightOf (node s) (mid o)) (odd-left d) (tally-left d))
       ∙ sym (ap (λ (k : Walked Bool). goOn k (onRight o f)) (is-over LineA LineA _ left (left-over e)))
       ∙ left-walked w f h
 
@@ -415,20 +403,18 @@ pub +walk-spec : {M : Type 1} → statement M
 +walk-spec =
     close μ-walk λ t.
     walk-lts.spec (claims t) (walk-at t) walk.Post
-    (tally-in-requires t)
     (visit-requires t)
     (enum-known-counted t)
     (enum-told t)
     (came-requires t)
     (returns t)
-    (visited-requires t)
     (visit-requires-2 t)
     (enum-told-2 t)
     (bad-row-requires t)
     (enum-told-3 t)
     (came-requires-2 t)
     (enum-known-crossed t)
-    (add-requires t)
+    (over-requires t)
     (enum-known-mid t)
     (add-next t)
     (point-at-requires t)
@@ -441,6 +427,8 @@ pub +walk-spec : {M : Type 1} → statement M
     (sub-right t)
     (mul-right t)
     (add-right t)
+    (odd-in-requires t)
+    (tally-in-requires t)
     (walk-requires-2 t)
     (returns-4 t)
     (returns-5 t)

@@ -46,7 +46,7 @@ walk-requires : tie.Need-walk-requires
 walk-requires c κs =
     let e = c .before .before in
     let p = e .before .before .before .pre in
-    (root-stands (p .0), root-ends (T-true (sym (e .before .ends-on-sheet .ensures) ∙ not-false _ (e .if1 .left))), stored-on (p .1), omega arith)
+    (root-stands (p .0), root-ends (T-true (sym (e .before .ends-on-sheet .ensures) ∙ not-false _ (e .if1 .left))), stored-on (p .1))
 
 -- the point's numbers are handed on as they are
 returns-2 : tie.Need-returns-2
