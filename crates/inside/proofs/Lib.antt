@@ -1,4 +1,2 @@
 -- Laws that the proofs of `inside` share.
-pub mod ReadBack
-pub mod Visits
 pub mod Replies

@@ -24,9 +24,11 @@ module _ (ps t : List ℤ) (z : Point) (allowance : ℕ) where
   askedRefusal s r = cond (not s) (some (early (askedCheck z))) (cond r (some (early (ringCheck LineA ps))) none)
 
   -- the first check that holds decides the reply, and else the walk
-  pub in-checked : {o : Option Refusal} {s r : Bool} → firstRefusal (lengthChecks LineA ps t) ≡ o → onSheet z ≡ s → ringCheck LineA ps .holds ≡ r
+  pub in-checked : {o : Option Refusal} {s r : Bool}
+      → firstRefusal (lengthChecks LineA ps t) ≡ o → onSheet z ≡ s → ringCheck LineA ps .holds ≡ r
       → orRefused (orElse o (askedRefusal s r)) walkReply ≡ inReply ps t z allowance
   unfolding inReply
   in-checked o s r =
-      sym (ap (λ (f : Option Refusal). orRefused f walkReply) (first-append (lengthChecks LineA ps t) (askedCheck z ∷ ringCheck LineA ps ∷ []))
+      let after = first-append (lengthChecks LineA ps t) (askedCheck z ∷ ringCheck LineA ps ∷ []) in
+      sym (ap (λ (f : Option Refusal). orRefused f walkReply) after
       ∙ (λ i. orRefused (orElse (o i) (askedRefusal (s i) (r i))) walkReply))

@@ -29,10 +29,14 @@ lengths-told : (c : tie.After-check-lengths) {k : Checked} → c .check-lengths 
     → firstRefusal (lengthChecks LineA (c .before .args .t1 .now) (c .before .args .t2 .now)) ≡ checkedRefusal k
 lengths-told c e = sym (c .check-lengths .ensures) ∙ ap checkedRefusal e
 
-fine : (c : tie.After-enum-told) → firstRefusal (lengthChecks LineA (c .before .before .before .args .t1 .now) (c .before .before .before .args .t2 .now)) ≡ none
+abbrev start : tie.After-enum-told → tie.Start
+start c = c .before .before .before
+
+fine : (c : tie.After-enum-told)
+    → firstRefusal (lengthChecks LineA (start c .args .t1 .now) (start c .args .t2 .now)) ≡ none
 fine c = let e : c .before .before .check-lengths .result ≡ Fine = cc in lengths-told (c .before .before) e
 
-lengths : (c : tie.After-enum-told) → LengthsFine (c .before .before .before .args .t1 .now) (c .before .before .before .args .t2 .now)
+lengths : (c : tie.After-enum-told) → LengthsFine (start c .args .t1 .now) (start c .args .t2 .now)
 lengths c = lengths-fine LineA _ _ (fine c)
 
 on : (c : tie.Else1) → onSheet (c .before .before .before .before .before .args .z) ≡ true
@@ -60,7 +64,8 @@ early-requires c κs = search needs
 returns-2 : tie.Need-returns-2
 returns-2 c =
     let o = c .before .before in
-    ap (λ (r : Refusal). sideReply (Refused r)) (c .early .ensures) ∙ in-checked _ _ _ _ (fine (o .before)) (sym (o .on-sheet .ensures) ∙ not-true _ (c .before .if1 .taken)) refl
+    let off = sym (o .on-sheet .ensures) ∙ not-true _ (c .before .if1 .taken) in
+    ap (λ (r : Refusal). sideReply (Refused r)) (c .early .ensures) ∙ in-checked _ _ _ _ (fine (o .before)) off refl
 
 no-ring-requires : tie.Need-no-ring-requires
 no-ring-requires c κs = omega (arith, lengths (c .before .before) .some-points)
@@ -71,7 +76,9 @@ early-requires-2 c κs = search needs
 returns-3 : tie.Need-returns-3
 returns-3 c =
     let r = c .before .before in
-    ap (λ (r : Refusal). sideReply (Refused r)) (c .early2 .ensures) ∙ in-checked _ _ _ _ (fine (r .before .before .before)) (on (r .before)) (sym (r .no-ring .ensures) ∙ c .before .if2 .taken)
+    let none = sym (r .no-ring .ensures) ∙ c .before .if2 .taken in
+    ap (λ (r : Refusal). sideReply (Refused r)) (c .early2 .ensures)
+    ∙ in-checked _ _ _ _ (fine (r .before .before .before)) (on (r .before)) none
 
 -- ---------------- the walk
 ask-requires : tie.Need-ask-requires

@@ -29,7 +29,9 @@ returns-2 c =
     let few = le-ltb _ _ (c .before .before .before .if1 .left) in
     let a = c .before .before .point-at .ensures in
     let b = c .before .point-at2 .ensures in
-    (λ d. not (c .same-point .ensures d)) ∙ (λ d. not (samePoint (a d) (b d))) ∙ sym (λ d. few d || not (samePoint (point ps 0) (point ps (segmentsOf ps))))
+    (λ d. not (c .same-point .ensures d))
+    ∙ (λ d. not (samePoint (a d) (b d)))
+    ∙ sym (λ d. few d || not (samePoint (point ps 0) (point ps (segmentsOf ps))))
 
 pub no-ring-spec : {M : Type 1} → statement M
 no-ring-spec =

@@ -23,7 +23,8 @@ module _ (c : tie.After-visits-in) where
   abbrev read : Walked Bool
   read = cameTo false true LineA LineA (c .before .before .args .allowance) (c .before .before .args .came)
 
-  said : {w : Walked Bool} → read ≡ w → sideOfRing (c .before .before .args .allowance) w ≡ sideOfRing (c .before .before .args .allowance) read
+  said : {w : Walked Bool} → read ≡ w
+      → sideOfRing (c .before .before .args .allowance) w ≡ sideOfRing (c .before .before .args .allowance) read
   said e = sym (ap (sideOfRing (c .before .before .args .allowance)) e)
 
   end-read : {e : ℕ} → c .before .end-in .result ≡ e → endIn (c .before .before .args .came) ≡ e
@@ -39,7 +40,9 @@ even : (c : tie.Else2) → endIn (c .before .before .before .before .args .came)
 even c = search needs
 
 returns-2 : tie.Need-returns-2
-returns-2 c = let v = c .before .before in ap (says OUTSIDE) (v .visits-in .ensures) ∙ said v (is-even false true LineA LineA _ _ (even c))
+returns-2 c =
+    let v = c .before .before in
+    ap (says OUTSIDE) (v .visits-in .ensures) ∙ said v (is-even false true LineA LineA _ _ (even c))
 
 returns-3 : tie.Need-returns-3
 returns-3 c =
@@ -47,7 +50,8 @@ returns-3 c =
     ap (says ON) (v .visits-in .ensures) ∙ said v (is-ended false true LineA LineA _ _ (end-read v (c .if3 .taken)))
 
 returns-4 : tie.Need-returns-4
-returns-4 c = let v = c .before .before .before in said v (is-spent false true LineA LineA _ _ (end-read v (c .if4 .taken)))
+returns-4 c =
+    let v = c .before .before .before in said v (is-spent false true LineA LineA _ _ (end-read v (c .if4 .taken)))
 
 -- what is none of these is a bad row
 bad : (c : tie.Else4) → badRow ≤ endIn (c .before .before .before .before .before .args .came)

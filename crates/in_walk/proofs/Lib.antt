@@ -1,0 +1,2 @@
+-- Laws that the proofs of `in_walk` share.
+pub mod Visits

@@ -1,2 +1,0 @@
--- What the contracts of `inside` are said with.
-pub mod Said
