@@ -260,7 +260,7 @@ module _ (t : ℕ) where
   next-small c = let h = inner c in row-small (left-stands (opening c .pre .1 .0) (h .0) (h .1))
 
   bad-row-due-requires : walk-lts.Need-bad-row-due-requires (claims t) (walk-at t) walk.Post
-  bad-row-due-requires c κs = next-small (split (c .before))
+  bad-row-due-requires c κs = let small = next-small (split (c .before)) in omega arith
 
   -- the right half, as it is left to do, with a count and a tally; after what the left half comes to, it makes the walk
   abbrev onRight : Split → ℕ → Bool → Tally → Walked Bool

@@ -9,7 +9,9 @@ use Rattle.inside.proofs.no_ring.Statement.{statement}
 use Rattle.inside.proofs.no_ring.Tie as tie
 
 returns : tie.Need-returns
-returns c = simp (lt-ltb _ _ (c .if1 .taken))
+returns c =
+    let ps = c .before .args .points .now in
+    let few = lt-ltb _ _ (c .if1 .taken) in sym (λ d. few d || not (samePoint (point ps 0) (point ps (segmentsOf ps))))
 
 point-at-requires : tie.Need-point-at-requires
 point-at-requires c κs = search needs

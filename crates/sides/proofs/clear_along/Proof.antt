@@ -2,7 +2,7 @@
 use mathlib.Core.Path.{_≡_, sym, _∙_}
 use mathlib.Core.Bool.{Bool, false, _||_}
 use mir.Syntax.{w64}
-use mir.Val.{SFits, toZ, ofZ}
+use mir.Val.{SFits}
 use mir.Facts.{toZ-ofZ}
 use Rattle.whole.specs.Machine.{result}
 use Rattle.rules.specs.Plane.{cAt, tAt}
@@ -48,54 +48,46 @@ once-3 c = c .before .before .before .before
 abbrev start-4 : tie.After-outside4 → tie.Start
 start-4 c = start-3 (once-3 c .before)
 
--- the row's numbers are read as they are
+-- the row's numbers fit, so they are read as they are
 module _ (s : tie.Start) where
-  xmin-read : toZ w64 (ofZ w64 (s .args .r .xmin)) ≡ s .args .r .xmin
-  xmin-read = let f : SFits w64 (s .args .r .xmin) = search needs in toZ-ofZ f
+  x-fits : SFits w64 (s .args .r .xmin) × SFits w64 (s .args .r .xmax)
+  x-fits = (search needs, search needs)
 
-  xmax-read : toZ w64 (ofZ w64 (s .args .r .xmax)) ≡ s .args .r .xmax
-  xmax-read = let f : SFits w64 (s .args .r .xmax) = search needs in toZ-ofZ f
+  y-fits : SFits w64 (s .args .r .ymin) × SFits w64 (s .args .r .ymax)
+  y-fits = (search needs, search needs)
 
-  ymin-read : toZ w64 (ofZ w64 (s .args .r .ymin)) ≡ s .args .r .ymin
-  ymin-read = let f : SFits w64 (s .args .r .ymin) = search needs in toZ-ofZ f
+  c-fits : SFits w64 (s .args .r .cmin) × SFits w64 (s .args .r .cmax)
+  c-fits = (search needs, search needs)
 
-  ymax-read : toZ w64 (ofZ w64 (s .args .r .ymax)) ≡ s .args .r .ymax
-  ymax-read = let f : SFits w64 (s .args .r .ymax) = search needs in toZ-ofZ f
-
-  cmin-read : toZ w64 (ofZ w64 (s .args .r .cmin)) ≡ s .args .r .cmin
-  cmin-read = let f : SFits w64 (s .args .r .cmin) = search needs in toZ-ofZ f
-
-  cmax-read : toZ w64 (ofZ w64 (s .args .r .cmax)) ≡ s .args .r .cmax
-  cmax-read = let f : SFits w64 (s .args .r .cmax) = search needs in toZ-ofZ f
-
-  tmin-read : toZ w64 (ofZ w64 (s .args .r .tmin)) ≡ s .args .r .tmin
-  tmin-read = let f : SFits w64 (s .args .r .tmin) = search needs in toZ-ofZ f
-
-  tmax-read : toZ w64 (ofZ w64 (s .args .r .tmax)) ≡ s .args .r .tmax
-  tmax-read = let f : SFits w64 (s .args .r .tmax) = search needs in toZ-ofZ f
+  t-fits : SFits w64 (s .args .r .tmin) × SFits w64 (s .args .r .tmax)
+  t-fits = (search needs, search needs)
 
 -- ---------------- what each call tells of its own test
 beside-told : (c : tie.After-outside) → c .outside .result ≡ beside (start c)
 beside-told c =
     let s = start c in
-    c .outside .ensures ∙ (λ d. outside (xmin-read s d) (xmax-read s d) (stored (s .pre .2 .x-in) tt d))
+    let f = x-fits s in
+    c .outside .ensures ∙ (λ d. outside (toZ-ofZ (f .0) d) (toZ-ofZ (f .1) d) (stored (s .pre .2 .x-in) tt d))
 
 above-told : (c : tie.After-outside2) → c .outside2 .result ≡ above (start-2 c)
 above-told c =
     let s = start-2 c in
-    c .outside2 .ensures ∙ (λ d. outside (ymin-read s d) (ymax-read s d) (stored (s .pre .2 .y-in) tt d))
+    let f = y-fits s in
+    c .outside2 .ensures ∙ (λ d. outside (toZ-ofZ (f .0) d) (toZ-ofZ (f .1) d) (stored (s .pre .2 .y-in) tt d))
 
 across-told : (c : tie.After-outside3) → c .outside3 .result ≡ across (start-3 c)
 across-told c =
     let s = start-3 c in
+    let f = c-fits s in
     let k = c .before .before .before .c-at in
-    c .outside3 .ensures ∙ (λ d. outside (cmin-read s d) (cmax-read s d) (result w64 (k .ok) (k .ensures) d))
+    c .outside3 .ensures ∙ (λ d. outside (toZ-ofZ (f .0) d) (toZ-ofZ (f .1) d) (result w64 (k .ok) (k .ensures) d))
 
 along-told : (c : tie.After-outside4) → c .outside4 .result ≡ along (start-4 c)
 along-told c =
     let s = start-4 c in
+    let f = t-fits s in
     let k = c .before .before .before .t-at in
-    c .outside4 .ensures ∙ (λ d. outside (tmin-read s d) (tmax-read s d) (result w64 (k .ok) (k .ensures) d))
+    c .outside4 .ensures ∙ (λ d. outside (toZ-ofZ (f .0) d) (toZ-ofZ (f .1) d) (result w64 (k .ok) (k .ensures) d))
 
 -- what is known once the first, the second and the third are false
 not-beside : (c : tie.Else1) → beside (start (c .before)) ≡ false

@@ -1,7 +1,7 @@
 -- `clear_of` asks along the direction of the node.
 use mathlib.Core.Path.{sym, _∙_, subst}
 use Rattle.rules.specs.Questions.{clearOf}
-use Rattle.visits.specs.Small.{Small}
+use Rattle.visits.specs.Small.{OnSheet, Small}
 use Rattle.visits.proofs.Sizes.{direction-small}
 use borrow.Author.Needs.{needs}
 use Rattle.sides.proofs.clear_of.Statement.{statement}
@@ -12,7 +12,8 @@ direction-requires c κs = search needs
 
 clear-along-requires : tie.Need-clear-along-requires
 clear-along-requires c κs =
-    let s = c .before .pre in (s .0, subst Small (sym (c .direction .ensures)) (direction-small (s .0) (s .1)), s .2)
+    let on : OnSheet (c .before .args .z) = search needs in
+    (search needs, subst Small (sym (c .direction .ensures)) (direction-small (search needs) (search needs)), on)
 
 returns : tie.Need-returns
 returns c =
