@@ -10,8 +10,8 @@ use Rattle.rules.specs.declared.Tally.{Tally}
 use Rattle.rules.specs.declared.Next.{Next}
 use Rattle.rules.specs.declared.Next.the-variants.{Left, Spent}
 use Rattle.rules.specs.Walk.{next, Walked, ended, over, spent, refused, goOn}
-use Rattle.ends.specs.Came.{half, came, visitsIn, endIn, ENDED, overAt, badRow, badSecond, oddIn, refusalAt, refusalIn}
-use Rattle.ends.specs.Came.{tallyIn, cameTo}
+use Rattle.ends.specs.Came.{half, came, visitsIn, endIn, ENDED, overAt, badRow, badSecond, oddIn}
+use Rattle.ends.specs.Came.{refusalAt, refusalIn, tallyIn, cameTo}
 
 pub visits-in : (v e : ℕ) → e < half → visitsIn (came v e) ≡ v
 visits-in v e small = omega arith
