@@ -17,9 +17,11 @@ module _ (ps t qs t′ : List ℤ) (allowance : ℕ) where
   walkReply = yesOrNo allowance (meetWalk ps t qs t′ (fresh allowance))
 
   -- refusals of A, else of B, else the walk
-  pub meet-checked : {a b : Option Refusal} → firstRefusal (lengthChecks LineA ps t) ≡ a → firstRefusal (lengthChecks LineB qs t′) ≡ b
+  pub meet-checked : {a b : Option Refusal}
+      → firstRefusal (lengthChecks LineA ps t) ≡ a → firstRefusal (lengthChecks LineB qs t′) ≡ b
       → orRefused (orElse a b) walkReply ≡ meetReply ps t qs t′ allowance
   unfolding meetReply
   meet-checked a b =
-      sym (ap (λ (r : Option Refusal). orRefused r walkReply) (first-append (lengthChecks LineA ps t) (lengthChecks LineB qs t′))
+      sym (ap (λ (r : Option Refusal). orRefused r walkReply)
+      (first-append (lengthChecks LineA ps t) (lengthChecks LineB qs t′))
       ∙ (λ i. orRefused (orElse (a i) (b i)) walkReply))

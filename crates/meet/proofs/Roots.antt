@@ -1,36 +1,31 @@
 -- Roots with their boxes apart: one visit dismisses the pair, whatever the strips say, and that is the walk.
 use mathlib.Core.Path.{_≡_, refl, sym, _∙_}
-use mathlib.Core.Bool.{true, cond, _&&_, _||_}
+use mathlib.Core.Bool.{true, cond, _||_}
 use mathlib.Core.List.{List}
 use Prim.Native.Nat.{ℕ, _<_}
-use lib.Dec.{T, leb}
+use lib.Dec.{T}
 use lib.IntN.{ℤ}
-use Rattle.rules.specs.declared.Line.the-variants.{LineA, LineB}
 use Rattle.rules.specs.declared.Next.{Next}
 use Rattle.rules.specs.declared.Next.the-variants.{Left, Spent}
 use Rattle.rules.specs.declared.Pair.{Pair}
 use Rattle.rules.specs.declared.Tally.{Tally}
-use Rattle.rules.specs.Plain.{share}
 use Rattle.rules.specs.Tree.{rowAt}
-use Rattle.rules.specs.Walk.{next, Visit, finish, pass, over, onVisit, walk}
-use Rattle.rules.specs.Questions.{Nothing, leaf, size, splitIn, openNode, startOf, endOf, headingOf, boxesApart, stripApart, apart, meetVisit}
+use Rattle.rules.specs.Walk.{next, Visit, pass, over, onVisit, walk}
+use Rattle.rules.specs.Questions.{Nothing, startOf, headingOf, boxesApart, stripApart, apart, meetVisit}
 use Rattle.visits.proofs.Levels.{none-left, visited}
-use Rattle.meet_visit.specs.Said.{halvesA, halvesB}
-use Rattle.meet_visit.proofs.Steps.{goodA, goodB, both-good}
+use Rattle.meet_visit.proofs.Steps.{goodA, goodB, keptVisit, both-good}
 
 module _ (ps t qs t′ : List ℤ) (n : Pair) where
   -- boxes apart dismiss the pair, whatever the strips say
-  pub boxes-dismiss : T (goodA ps t qs t′ n) → T (goodB ps t qs t′ n) → boxesApart (rowAt t (n .a .row)) (rowAt t′ (n .b .row)) ≡ true
-      → pass (λ k. k) ≡ meetVisit ps t qs t′ n
+  pub boxes-dismiss : T (goodA ps t qs t′ n) → T (goodB ps t qs t′ n)
+      → boxesApart (rowAt t (n .a .row)) (rowAt t′ (n .b .row)) ≡ true → pass (λ k. k) ≡ meetVisit ps t qs t′ n
   unfolding apart
   boxes-dismiss h k e =
       let r = rowAt t (n .a .row) in
       let q = rowAt t′ (n .b .row) in
       let strips = stripApart r (startOf ps (n .a)) (headingOf ps (n .a)) q in
       let others = stripApart q (startOf qs (n .b)) (headingOf qs (n .b)) r in
-      sym (λ i. cond (e i || strips || others) (pass (λ k. k))
-      (cond (leaf (n .a) && leaf (n .b)) (cond (share (startOf ps (n .a)) (endOf ps (n .a)) (startOf qs (n .b)) (endOf qs (n .b))) finish (pass (λ k. k)))
-      (cond (leb (size (n .b)) (size (n .a))) (openNode LineA ps (n .a) (splitIn r) (halvesA n)) (openNode LineB qs (n .b) (splitIn q) (halvesB n)))))
+      sym (λ i. cond (e i || strips || others) (pass (λ k. k)) (keptVisit ps r qs q n))
       ∙ both-good ps t qs t′ n h k
 
 -- a visit that dismisses the pair that a walk starts from is the walk

@@ -29,8 +29,8 @@ fn at_once(tally: Tally) -> Answer
     Answer::No(counted.visits)
 }
 
-// The answer of the walk from both roots, whose rows are checked first. Roots with their boxes apart, as most lines of a
-// register have them, need no walk.
+// The answer of the walk from both roots, whose rows are checked first. Roots with their boxes apart, as most lines of
+// a register have them, need no walk.
 fn from_roots(
     points_a: &[i32],
     table_a: &[i32],
@@ -40,7 +40,8 @@ fn from_roots(
 ) -> Answer
     requires { ⌜ LengthsFine (now «points_a») (now «table_a») × LengthsFine (now «points_b») (now «table_b») ⌝ }
     ensures { λ r. ⌜ answerReply r ≡ yesOrNo allowance
-        (meetWalk (now («points_a» .entry)) (now («table_a» .entry)) (now («points_b» .entry)) (now («table_b» .entry)) (fresh allowance)) ⌝ }
+        (meetWalk (now («points_a» .entry)) (now («table_a» .entry))
+        (now («points_b» .entry)) (now («table_b» .entry)) (fresh allowance)) ⌝ }
 {
     let last_a = points_a.len() / 2 - 1;
     let last_b = points_b.len() / 2 - 1;
@@ -86,7 +87,8 @@ pub fn meet(
     allowance: u32,
 ) -> Answer
     ensures { λ r. ⌜ answerReply r
-        ≡ meetReply (now («points_a» .entry)) (now («table_a» .entry)) (now («points_b» .entry)) (now («table_b» .entry)) allowance ⌝ }
+        ≡ meetReply (now («points_a» .entry)) (now («table_a» .entry))
+        (now («points_b» .entry)) (now («table_b» .entry)) allowance ⌝ }
 {
     if let Checked::Refused(refusal) = check_lengths(Line::LineA, points_a, table_a) {
         return Answer::Refused(refusal);

@@ -3,6 +3,7 @@
 use mathlib.Core.Path.{_≡_, refl, sym}
 use mathlib.Core.Bool.{Bool, true, false, not, cond, _&&_}
 use mathlib.Core.List.{List}
+use Prim.Native.Nat.{_+_, _<_}
 use lib.Dec.{T, leb, leb→le, nleb→lt}
 use lib.IntN.{ℤ}
 use Rattle.whole.specs.Order.{yes-T}
@@ -13,38 +14,56 @@ use Rattle.rules.specs.Plain.{share}
 use Rattle.rules.specs.Rows.{good}
 use Rattle.rules.specs.Tree.{rowAt}
 use Rattle.rules.specs.Walk.{Visit, refuse, finish, pass}
-use Rattle.rules.specs.Questions.{Nothing, leaf, size, splitIn, openNode, startOf, endOf, headingOf, apart, meetVisit}
+use Rattle.rules.specs.Questions.{Nothing, leaf, size, splitIn, openNode, startOf, endOf, meetVisit}
 use Rattle.visits.proofs.Nodes.{larger-opens, other-opens}
 use Rattle.row.proofs.Places.{opens}
 use Rattle.meet_visit.specs.declared.Step.{Step}
+use Rattle.meet_visit.specs.declared.Step.the-variants.{HalveA, HalveB}
 use Rattle.meet_visit.specs.Pairs.{Read}
-use Rattle.meet_visit.specs.Said.{stepVisit, SplitsInside, halvesA, halvesB, compared}
+use Rattle.meet_visit.specs.Said.{stepVisit, SplitsInside, halvesA, halvesB, nodesApart, compared}
 use Rattle.meet_visit.proofs.GoodRows.{split-inside}
 
--- the definition, after both rows are read and good
+-- the definition of a visit, in its parts: the segments of two leaves share a point; the pair is not dismissed; and all
+-- of it, after both rows are read and good
+abbrev sharing : List ℤ → List ℤ → Pair → Bool
+sharing ps qs n = share (startOf ps (n .a)) (endOf ps (n .a)) (startOf qs (n .b)) (endOf qs (n .b))
+
+abbrev pub keptVisit : List ℤ → Row → List ℤ → Row → Pair → Visit Nothing Pair
+keptVisit ps r qs q n =
+    cond (leaf (n .a) && leaf (n .b)) (cond (sharing ps qs n) finish (pass (λ k. k)))
+    (cond (leb (size (n .b)) (size (n .a))) (openNode LineA ps (n .a) (splitIn r) (halvesA n))
+    (openNode LineB qs (n .b) (splitIn q) (halvesB n)))
+
 abbrev pub comparedVisit : List ℤ → Row → List ℤ → Row → Pair → Visit Nothing Pair
-comparedVisit ps r qs q n =
-    cond (apart r (startOf ps (n .a)) (headingOf ps (n .a)) q (startOf qs (n .b)) (headingOf qs (n .b))) (pass (λ k. k))
-    (cond (leaf (n .a) && leaf (n .b)) (cond (share (startOf ps (n .a)) (endOf ps (n .a)) (startOf qs (n .b)) (endOf qs (n .b))) finish (pass (λ k. k)))
-    (cond (leb (size (n .b)) (size (n .a))) (openNode LineA ps (n .a) (splitIn r) (halvesA n)) (openNode LineB qs (n .b) (splitIn q) (halvesB n))))
+comparedVisit ps r qs q n = cond (nodesApart ps r qs q n) (pass (λ k. k)) (keptVisit ps r qs q n)
 
 -- a step is such a visit, and splits inside
 abbrev pub Does : Pair → Step → Visit Nothing Pair → Type 0
 Does n s v = (stepVisit n s ≡ v) × SplitsInside n s
 
-by-test : (n : Pair) (b : Bool) (s s′ : Step) (v v′ : Visit Nothing Pair) → (T b → Does n s v) → (T (not b) → Does n s′ v′) → Does n (cond b s s′) (cond b v v′)
+by-test : (n : Pair) (b : Bool) (s s′ : Step) (v v′ : Visit Nothing Pair)
+    → (T b → Does n s v) → (T (not b) → Does n s′ v′) → Does n (cond b s s′) (cond b v v′)
 by-test n true s s′ v v′ h k = h tt
 by-test n false s s′ v v′ h k = k tt
 
 module _ {ps qs : List ℤ} {r q : Row} (n : Pair) (a : Read ps r (n .a)) (b : Read qs q (n .b)) where
+  -- the node that splits does so at an inner point
+  opens-a : n .a .first + 1 < n .a .last
+      → Does n (HalveA (splitIn r)) (openNode LineA ps (n .a) (splitIn r) (halvesA n))
+  opens-a h = let i = split-inside a h in (sym (opens (a .stands) (i .0) (i .1) LineA (halvesA n)), i)
+
+  opens-b : n .b .first + 1 < n .b .last
+      → Does n (HalveB (splitIn q)) (openNode LineB qs (n .b) (splitIn q) (halvesB n))
+  opens-b h = let i = split-inside b h in (sym (opens (b .stands) (i .0) (i .1) LineB (halvesB n)), i)
+
   pub compared-does : Does n (compared ps r qs q n) (comparedVisit ps r qs q n)
   compared-does =
-      by-test n (apart r (startOf ps (n .a)) (headingOf ps (n .a)) q (startOf qs (n .b)) (headingOf qs (n .b))) _ _ _ _ (λ _. (refl, tt))
+      by-test n (nodesApart ps r qs q n) _ _ _ _ (λ _. (refl, tt))
       (λ _. by-test n (leaf (n .a) && leaf (n .b)) _ _ _ _
-      (λ _. by-test n (share (startOf ps (n .a)) (endOf ps (n .a)) (startOf qs (n .b)) (endOf qs (n .b))) _ _ _ _ (λ _. (refl, tt)) (λ _. (refl, tt)))
+      (λ _. by-test n (sharing ps qs n) _ _ _ _ (λ _. (refl, tt)) (λ _. (refl, tt)))
       (λ u. by-test n (leb (size (n .b)) (size (n .a))) _ _ _ _
-      (λ k. let i = split-inside a (larger-opens (n .a) (n .b) u (leb→le _ _ k)) in (sym (opens (a .stands) (i .0) (i .1) LineA (halvesA n)), i))
-      (λ k. let i = split-inside b (other-opens (n .a) (n .b) u (nleb→lt _ _ k)) in (sym (opens (b .stands) (i .0) (i .1) LineB (halvesB n)), i))))
+      (λ k. opens-a (larger-opens (n .a) (n .b) u (leb→le _ _ k)))
+      (λ k. opens-b (other-opens (n .a) (n .b) u (nleb→lt _ _ k)))))
 
 -- ---------------- what a visit comes to, by which row is bad
 module _ (ps t qs t′ : List ℤ) (n : Pair) where

@@ -1,5 +1,5 @@
 -- What the values of `meet_visit` say, in the words of the definitions, and the parts of one visit.
-use mathlib.Core.Bool.{cond, _&&_}
+use mathlib.Core.Bool.{Bool, cond, _&&_}
 use mathlib.Core.List.{List}
 use Prim.Native.Nat.{_<_}
 use lib.Dec.{leb}
@@ -44,9 +44,15 @@ tested a b c d = cond (share a b c d) Finish Pass
 abbrev pub opened : Row → Row → Pair → Step
 opened r q n = cond (leb (size (n .b)) (size (n .a))) (HalveA (splitIn r)) (HalveB (splitIn q))
 
+-- whether the nodes of a pair are dismissed, by their rows, first points and headings
+abbrev pub nodesApart : List ℤ → Row → List ℤ → Row → Pair → Bool
+nodesApart ps r qs q n =
+    apart r (startOf ps (n .a)) (headingOf ps (n .a)) q (startOf qs (n .b)) (headingOf qs (n .b))
+
 -- what a visit does after both rows are read and good
 abbrev pub compared : List ℤ → Row → List ℤ → Row → Pair → Step
 compared ps r qs q n =
-    cond (apart r (startOf ps (n .a)) (headingOf ps (n .a)) q (startOf qs (n .b)) (headingOf qs (n .b))) Pass
-    (cond (leaf (n .a) && leaf (n .b)) (tested (startOf ps (n .a)) (endOf ps (n .a)) (startOf qs (n .b)) (endOf qs (n .b)))
+    cond (nodesApart ps r qs q n) Pass
+    (cond (leaf (n .a) && leaf (n .b))
+    (tested (startOf ps (n .a)) (endOf ps (n .a)) (startOf qs (n .b)) (endOf qs (n .b)))
     (opened r q n))

@@ -1,5 +1,5 @@
 // One visit of MEET: it reads a row of each line and dismisses the pair, tests two segments, or halves one node.
-// `visit` takes a pair whose rows are good, and does what the visit of `rules` does; a node is halved at an inner point.
+// `visit` takes a pair whose rows are good, and does what the visit of `rules` does; it halves at an inner point.
 use apart::segments::share;
 use apart::strips::apart;
 use line::direction;

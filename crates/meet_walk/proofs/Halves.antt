@@ -73,14 +73,34 @@ module _ (n : Pair) {s : ℕ} where
 module _ {ps t qs t′ : List ℤ} {n : Pair} (h : PairGood ps t qs t′ n) where
   module _ {s : ℕ} (low : n .a .first < s) (high : s < n .a .last) where
     pub left-good-a : GoodAt ps t (leftOf (n .a) s) → PairGood ps t qs t′ (leftA n s)
-    left-good-a g = record { a-stands = left-stands (h .a-stands) low high; b-stands = h .b-stands; a-good = g; b-good = h .b-good }
+    left-good-a g = record {
+      a-stands = left-stands (h .a-stands) low high;
+      b-stands = h .b-stands;
+      a-good = g;
+      b-good = h .b-good;
+    }
 
     pub right-good-a : GoodAt ps t (rightOf (n .a) s) → PairGood ps t qs t′ (rightA n s)
-    right-good-a g = record { a-stands = right-stands (h .a-stands) low high; b-stands = h .b-stands; a-good = g; b-good = h .b-good }
+    right-good-a g = record {
+      a-stands = right-stands (h .a-stands) low high;
+      b-stands = h .b-stands;
+      a-good = g;
+      b-good = h .b-good;
+    }
 
   module _ {s : ℕ} (low : n .b .first < s) (high : s < n .b .last) where
     pub left-good-b : GoodAt qs t′ (leftOf (n .b) s) → PairGood ps t qs t′ (leftB n s)
-    left-good-b g = record { a-stands = h .a-stands; b-stands = left-stands (h .b-stands) low high; a-good = h .a-good; b-good = g }
+    left-good-b g = record {
+      a-stands = h .a-stands;
+      b-stands = left-stands (h .b-stands) low high;
+      a-good = h .a-good;
+      b-good = g;
+    }
 
     pub right-good-b : GoodAt qs t′ (rightOf (n .b) s) → PairGood ps t qs t′ (rightB n s)
-    right-good-b g = record { a-stands = h .a-stands; b-stands = right-stands (h .b-stands) low high; a-good = h .a-good; b-good = g }
+    right-good-b g = record {
+      a-stands = h .a-stands;
+      b-stands = right-stands (h .b-stands) low high;
+      a-good = h .a-good;
+      b-good = g;
+    }

@@ -6,7 +6,10 @@ use Rattle.rules.specs.Questions.{size}
 -- a node of A and a node of B, each by its row and its range of points
 abbrev pub pairOf : ℕ → ℕ → ℕ → ℕ → ℕ → ℕ → Pair
 pairOf row first last row′ first′ last′ =
-    record { a = record { row = row; first = first; last = last }; b = record { row = row′; first = first′; last = last′ } }
+    record {
+      a = record { row = row; first = first; last = last };
+      b = record { row = row′; first = first′; last = last′ };
+    }
 
 -- the segments of a pair: fewer in each half
 abbrev pub segments : Pair → ℕ

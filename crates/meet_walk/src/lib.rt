@@ -1,5 +1,5 @@
-// The walk of MEET from a pair of nodes on. Of a pair only one row is new, so a row is checked before the walk goes to it.
-// `walk` takes a pair whose rows are good, and comes to what the written walk of `rules` comes to from there.
+// The walk of MEET from a pair of nodes on. Of a pair only one row is new, so a row is checked before the walk goes to
+// it. `walk` takes a pair whose rows are good, and comes to what the written walk of `rules` comes to from there.
 use ends::ENDED;
 use ends::EVEN;
 use ends::SPENT;

@@ -30,7 +30,8 @@ returns c =
 returns-2 : tie.Need-returns-2
 returns-2 c =
     let k = c .before in
-    let s = k .before .before .before in sym (ap (said s) (sym (k .before .before .visit .ensures) ∙ k .counted .given .1))
+    let s = k .before .before .before in
+    sym (ap (said s) (sym (k .before .before .visit .ensures) ∙ k .counted .given .1))
 
 pub at-once-spec : {M : Type 1} → statement M
 at-once-spec = tie.close (tie.spec visit-requires enum-known-counted enum-told returns returns-2)

@@ -1,4 +1,5 @@
--- `from_roots` checks the row of A's root, then that of B's; roots with their boxes apart are one visit, others are walked from.
+-- `from_roots` checks the row of A's root, then that of B's; roots with their boxes apart are one visit, others are
+-- walked from.
 use mathlib.Core.Path.{_≡_, sym, _∙_, ap}
 use mathlib.Core.Bool.{Bool}
 use mathlib.Core.List.{List}
@@ -45,6 +46,16 @@ does s = meetVisit (ps s) (s .args .t2 .now) (qs s) (s .args .t4 .now)
 some : (s : tie.Start) → 0 < levels s
 some s = let f = s .pre .0 .some-points in omega arith
 
+-- ---------------- the places past each check
+abbrev start-a : tie.Else1 → tie.Start
+start-a c = c .before .before .before
+
+abbrev past-a : tie.Else2 → tie.Else1
+past-a c = c .before .before .before
+
+abbrev start-b : tie.Else2 → tie.Start
+start-b c = start-a (past-a c)
+
 -- ---------------- what each check said
 abbrev rootGoodA : tie.Start → Bool
 rootGoodA s = good (ps s) (rowAt (s .args .t2 .now) 0) 0 (segmentsOf (ps s))
@@ -53,16 +64,19 @@ abbrev rootGoodB : tie.Start → Bool
 rootGoodB s = good (qs s) (rowAt (s .args .t4 .now) 0) 0 (segmentsOf (qs s))
 
 told-a : (c : tie.After-row-good) → c .row-good .result ≡ rootGoodA (c .before .before)
-told-a c = let s = c .before .before in c .row-good .ensures ∙ (λ i. good (ps s) (c .before .row-at .ensures i) 0 (segmentsOf (ps s)))
+told-a c =
+    let s = c .before .before in
+    c .row-good .ensures ∙ (λ i. good (ps s) (c .before .row-at .ensures i) 0 (segmentsOf (ps s)))
 
-told-b : (c : tie.After-row-good2) → c .row-good2 .result ≡ rootGoodB (c .before .before .before .before .before)
+told-b : (c : tie.After-row-good2) → c .row-good2 .result ≡ rootGoodB (start-a (c .before .before))
 told-b c =
-    let s = c .before .before .before .before .before in c .row-good2 .ensures ∙ (λ i. good (qs s) (c .before .row-at2 .ensures i) 0 (segmentsOf (qs s)))
+    let s = start-a (c .before .before) in
+    c .row-good2 .ensures ∙ (λ i. good (qs s) (c .before .row-at2 .ensures i) 0 (segmentsOf (qs s)))
 
-good-a : (c : tie.Else1) → T (rootGoodA (c .before .before .before))
+good-a : (c : tie.Else1) → T (rootGoodA (start-a c))
 good-a c = T-true (sym (told-a (c .before)) ∙ not-false _ (c .if1 .left))
 
-good-b : (c : tie.Else2) → T (rootGoodB (c .before .before .before .before .before .before))
+good-b : (c : tie.Else2) → T (rootGoodB (start-b c))
 good-b c = T-true (sym (told-b (c .before)) ∙ not-false _ (c .if2 .left))
 
 sub-last-a : tie.Need-sub-last-a
@@ -87,10 +101,12 @@ returns : tie.Need-returns
 returns c =
     let s = c .before .before .before .before .before in
     let k = s .args .allowance in
+    let bad = sym (told-a (c .before .before .before)) ∙ not-true _ (c .before .before .if1 .taken) in
     c .answer .ensures
     ∙ ap (λ (r : ℕ). yesOrNo k (cameTo tt tt LineA LineB k r)) (c .before .bad-row-due .ensures)
-    ∙ ap (yesOrNo k) (reads-bad-due tt tt LineA LineB (does s) (roots s) tt (fresh k) (levels s) (some s) 0 (omega arith)
-    (bad-a _ _ _ _ (roots s) (sym (told-a (c .before .before .before)) ∙ not-true _ (c .before .before .if1 .taken))))
+    ∙ ap (yesOrNo k)
+    (reads-bad-due tt tt LineA LineB (does s) (roots s) tt (fresh k) (levels s) (some s) 0 (omega arith)
+    (bad-a _ _ _ _ (roots s) bad))
 
 row-at-requires-2 : tie.Need-row-at-requires-2
 row-at-requires-2 c κs = search needs
@@ -107,30 +123,32 @@ answer-requires-2 c κs = search needs
 returns-2 : tie.Need-returns-2
 returns-2 c =
     let f = c .before .before .before .before .before in
-    let s = f .before .before .before in
+    let s = start-a f in
     let k = s .args .allowance in
+    let bad = sym (told-b (c .before .before .before)) ∙ not-true _ (c .before .before .if2 .taken) in
     c .answer2 .ensures
     ∙ ap (λ (r : ℕ). yesOrNo k (cameTo tt tt LineA LineB k r)) (c .before .bad-second-due .ensures)
-    ∙ ap (yesOrNo k) (reads-second-due tt tt LineA LineB (does s) (roots s) tt (fresh k) (levels s) (some s) 0 (omega arith)
-    (bad-b _ _ _ _ (roots s) (good-a f) (sym (told-b (c .before .before .before)) ∙ not-true _ (c .before .before .if2 .taken))))
+    ∙ ap (yesOrNo k)
+    (reads-second-due tt tt LineA LineB (does s) (roots s) tt (fresh k) (levels s) (some s) 0 (omega arith)
+    (bad-b _ _ _ _ (roots s) (good-a f) bad))
 
 -- ---------------- both rows are good
-read-a : (c : tie.Else1) → Read (ps (c .before .before .before)) (c .before .before .row-at .result) (root (ps (c .before .before .before)))
+read-a : (c : tie.Else1) → Read (ps (start-a c)) (c .before .before .row-at .result) (root (ps (start-a c)))
 read-a c = record {
-  table = c .before .before .before .args .t2 .now;
-  stands = root-stands (c .before .before .before .pre .0);
+  table = start-a c .args .t2 .now;
+  stands = root-stands (start-a c .pre .0);
   row-good = T-true (sym (c .before .row-good .ensures) ∙ not-false _ (c .if1 .left));
 }
 
-read-b : (c : tie.Else2) → Read (qs (c .before .before .before .before .before .before)) (c .before .before .row-at2 .result) (root (qs (c .before .before .before .before .before .before)))
+read-b : (c : tie.Else2) → Read (qs (start-b c)) (c .before .before .row-at2 .result) (root (qs (start-b c)))
 read-b c = record {
-  table = c .before .before .before .before .before .before .args .t4 .now;
-  stands = root-stands (c .before .before .before .before .before .before .pre .1);
+  table = start-b c .args .t4 .now;
+  stands = root-stands (start-b c .pre .1);
   row-good = T-true (sym (c .before .row-good2 .ensures) ∙ not-false _ (c .if2 .left));
 }
 
 boxes-apart-requires : tie.Need-boxes-apart-requires
-boxes-apart-requires c κs = (placed (read-a (c .before .before .before)) .box-on, placed (read-b c) .box-on)
+boxes-apart-requires c κs = (placed (read-a (past-a c)) .box-on, placed (read-b c) .box-on)
 
 at-once-requires : tie.Need-at-once-requires
 at-once-requires c κs = search needs
@@ -138,26 +156,33 @@ at-once-requires c κs = search needs
 returns-3 : tie.Need-returns-3
 returns-3 c =
     let g = c .before .before .before in
-    let f = g .before .before .before in
-    let s = f .before .before .before in
+    let f = past-a g in
+    let s = start-b g in
     let k = s .args .allowance in
-    let apart = sym (c .before .before .boxes-apart .ensures ∙ (λ i. boxesApart (f .before .before .row-at .ensures i) (g .before .before .row-at2 .ensures i))) ∙ c .before .if3 .taken in
-    c .at-once .ensures
-    ∙ ap (yesOrNo k) (dismissed (does s) (roots s) (fresh k) (levels s) (some s) (boxes-dismiss _ _ _ _ (roots s) (good-a f) (good-b g) apart))
+    let told =
+    c .before .before .boxes-apart .ensures
+    ∙ (λ i. boxesApart (f .before .before .row-at .ensures i) (g .before .before .row-at2 .ensures i))
+    in
+    let passes = boxes-dismiss _ _ _ _ (roots s) (good-a f) (good-b g) (sym told ∙ c .before .if3 .taken) in
+    c .at-once .ensures ∙ ap (yesOrNo k) (dismissed (does s) (roots s) (fresh k) (levels s) (some s) passes)
 
 walk-requires : tie.Need-walk-requires
 walk-requires c κs =
     let g = c .before .before .before .before .before .before in
-    let f = g .before .before .before in
-    let s = f .before .before .before in
-    record { a-stands = root-stands (s .pre .0); b-stands = root-stands (s .pre .1); a-good = good-a f; b-good = good-b g }
+    let s = start-b g in
+    record {
+      a-stands = root-stands (s .pre .0);
+      b-stands = root-stands (s .pre .1);
+      a-good = good-a (past-a g);
+      b-good = good-b g;
+    }
 
 answer-requires-3 : tie.Need-answer-requires-3
 answer-requires-3 c κs = search needs
 
 returns-4 : tie.Need-returns-4
 returns-4 c =
-    let s = c .before .before .before .before .before .before .before .before .before .before .before .before .before .before in
+    let s = start-b (c .before .before .before .before .before .before .before .before) in
     c .answer3 .ensures ∙ ap (yesOrNo (s .args .allowance)) (c .before .walk .ensures (levels s) (omega arith))
 
 pub from-roots-spec : {M : Type 1} → statement M

@@ -17,14 +17,20 @@ use Rattle.meet.proofs.meet.Tie as tie
 abbrev start : tie.After-enum-told → tie.Start
 start c = c .before .before .before
 
-none-of-a : (c : tie.After-enum-told) → firstRefusal (lengthChecks LineA (start c .args .points-a .now) (start c .args .table-a .now)) ≡ none
-none-of-a c = let e : c .before .before .check-lengths .result ≡ Fine = cc in sym (c .before .before .check-lengths .ensures) ∙ ap checkedRefusal e
+none-of-a : (c : tie.After-enum-told)
+    → firstRefusal (lengthChecks LineA (start c .args .points-a .now) (start c .args .table-a .now)) ≡ none
+none-of-a c =
+    let e : c .before .before .check-lengths .result ≡ Fine = cc in
+    sym (c .before .before .check-lengths .ensures) ∙ ap checkedRefusal e
 
 abbrev start-2 : tie.After-enum-told2 → tie.Start
 start-2 c = start (c .before .before .before)
 
-none-of-b : (c : tie.After-enum-told2) → firstRefusal (lengthChecks LineB (start-2 c .args .points-b .now) (start-2 c .args .table-b .now)) ≡ none
-none-of-b c = let e : c .before .before .check-lengths2 .result ≡ Fine = cc in sym (c .before .before .check-lengths2 .ensures) ∙ ap checkedRefusal e
+none-of-b : (c : tie.After-enum-told2)
+    → firstRefusal (lengthChecks LineB (start-2 c .args .points-b .now) (start-2 c .args .table-b .now)) ≡ none
+none-of-b c =
+    let e : c .before .before .check-lengths2 .result ≡ Fine = cc in
+    sym (c .before .before .check-lengths2 .ensures) ∙ ap checkedRefusal e
 
 fine-a : (c : tie.After-enum-told2) → LengthsFine (start-2 c .args .points-a .now) (start-2 c .args .table-a .now)
 fine-a c = lengths-fine LineA _ _ (none-of-a (c .before .before .before))
@@ -41,7 +47,8 @@ enum-known-refusal c = search needs
 returns : tie.Need-returns
 returns c =
     let a = c .before .before .before .before .args in
-    meet-checked (a .points-a .now) (a .table-a .now) (a .points-b .now) (a .table-b .now) (a .allowance) (sym (c .before .before .before .check-lengths .ensures) ∙ ap checkedRefusal (c .before .refusal .given .1)) refl
+    meet-checked (a .points-a .now) (a .table-a .now) (a .points-b .now) (a .table-b .now) (a .allowance)
+    (sym (c .before .before .before .check-lengths .ensures) ∙ ap checkedRefusal (c .before .refusal .given .1)) refl
 
 enum-told : tie.Need-enum-told
 enum-told c = search needs
@@ -56,7 +63,8 @@ returns-2 : tie.Need-returns-2
 returns-2 c =
     let f = c .before .before .before .before in
     let a = start f .args in
-    meet-checked (a .points-a .now) (a .table-a .now) (a .points-b .now) (a .table-b .now) (a .allowance) (none-of-a f) (sym (c .before .before .before .check-lengths2 .ensures) ∙ ap checkedRefusal (c .before .refusal2 .given .1))
+    meet-checked (a .points-a .now) (a .table-a .now) (a .points-b .now) (a .table-b .now) (a .allowance) (none-of-a f)
+    (sym (c .before .before .before .check-lengths2 .ensures) ∙ ap checkedRefusal (c .before .refusal2 .given .1))
 
 enum-told-2 : tie.Need-enum-told-2
 enum-told-2 c = search needs
@@ -69,7 +77,8 @@ returns-3 c =
     let f = c .before in
     let a = start-2 f .args in
     c .from-roots .ensures
-    ∙ meet-checked (a .points-a .now) (a .table-a .now) (a .points-b .now) (a .table-b .now) (a .allowance) (none-of-a (f .before .before .before)) (none-of-b f)
+    ∙ meet-checked (a .points-a .now) (a .table-a .now) (a .points-b .now) (a .table-b .now) (a .allowance)
+    (none-of-a (f .before .before .before)) (none-of-b f)
 
 pub meet-spec : {M : Type 1} → statement M
 meet-spec =

@@ -14,7 +14,7 @@ use Rattle.visits.specs.Small.{OnSheet}
 use Rattle.apart.specs.Placed.{Placed}
 use Rattle.meet_visit.specs.declared.Step.{Step}
 use Rattle.meet_visit.specs.declared.Step.the-variants.{Pass}
-use Rattle.meet_visit.specs.Said.{tested, opened}
+use Rattle.meet_visit.specs.Said.{tested, opened, nodesApart}
 use Rattle.meet_visit.proofs.GoodRows.{start-on, end-on, placed, has-split}
 use borrow.Author.Needs.{needs}
 use Rattle.meet_visit.proofs.compare.Statement.{statement}
@@ -38,7 +38,7 @@ module _ (s : tie.Start) where
   pair = s .args .pair
 
   abbrev far : Bool
-  far = apart rowA (startOf ps (pair .a)) (headingOf ps (pair .a)) rowB (startOf qs (pair .b)) (headingOf qs (pair .b))
+  far = nodesApart ps rowA qs rowB pair
 
   abbrev leaves : Bool
   leaves = leaf (pair .a) && leaf (pair .b)

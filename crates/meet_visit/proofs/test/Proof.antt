@@ -13,12 +13,14 @@ share-requires c κs = search needs
 returns : tie.Need-returns
 returns c =
     let a = c .before .before .args in
-    let e : share (a .a) (a .b) (a .c) (a .d) ≡ true = sym (c .before .share .ensures) ∙ c .if1 .taken in sym (λ i. cond (e i) Finish Pass)
+    let e : share (a .a) (a .b) (a .c) (a .d) ≡ true = sym (c .before .share .ensures) ∙ c .if1 .taken in
+    sym (λ i. cond (e i) Finish Pass)
 
 returns-2 : tie.Need-returns-2
 returns-2 c =
     let a = c .before .before .args in
-    let e : share (a .a) (a .b) (a .c) (a .d) ≡ false = sym (c .before .share .ensures) ∙ c .if1 .left in sym (λ i. cond (e i) Finish Pass)
+    let e : share (a .a) (a .b) (a .c) (a .d) ≡ false = sym (c .before .share .ensures) ∙ c .if1 .left in
+    sym (λ i. cond (e i) Finish Pass)
 
 pub test-spec : {M : Type 1} → statement M
 test-spec = tie.close (tie.spec share-requires returns returns-2)

@@ -19,19 +19,26 @@ row-at-requires-2 c κs = search needs
 abbrev start : tie.After-row-at2 → tie.Start
 start c = c .before .before .before .before
 
-both-read : (c : tie.After-row-at2) → Read (start c .args .points-a .now) (c .before .row-at .result) (start c .args .pair .a)
+both-read : (c : tie.After-row-at2)
+    → Read (start c .args .points-a .now) (c .before .row-at .result) (start c .args .pair .a)
     × Read (start c .args .points-b .now) (c .row-at2 .result) (start c .args .pair .b)
 both-read c =
-    let n = start c .args .pair in (
+    let n = start c .args .pair in
+    let ps = start c .args .points-a .now in
+    let qs = start c .args .points-b .now in (
       record {
         table = start c .args .table-a .now;
         stands = start c .pre .a-stands;
-        row-good = subst (λ (r : Row). T (good (start c .args .points-a .now) r (n .a .first) (n .a .last))) (sym (c .before .row-at .ensures)) (start c .pre .a-good);
+        row-good =
+            subst (λ (r : Row). T (good ps r (n .a .first) (n .a .last))) (sym (c .before .row-at .ensures))
+            (start c .pre .a-good);
       },
       record {
         table = start c .args .table-b .now;
         stands = start c .pre .b-stands;
-        row-good = subst (λ (r : Row). T (good (start c .args .points-b .now) r (n .b .first) (n .b .last))) (sym (c .row-at2 .ensures)) (start c .pre .b-good);
+        row-good =
+            subst (λ (r : Row). T (good qs r (n .b .first) (n .b .last))) (sym (c .row-at2 .ensures))
+            (start c .pre .b-good);
       },
     )
 
@@ -43,12 +50,14 @@ returns c =
     let s = start (c .before) in
     let a = s .args in
     let n = a .pair in
+    let ps = a .points-a .now in
+    let qs = a .points-b .now in
     let read = both-read (c .before) in
     let does = compared-does n (read .0) (read .1) in (
       ap (stepVisit n) (c .compare .ensures)
           ∙ does .0
-          ∙ (λ i. comparedVisit (a .points-a .now) (c .before .before .row-at .ensures i) (a .points-b .now) (c .before .row-at2 .ensures i) n)
-          ∙ both-good (a .points-a .now) (a .table-a .now) (a .points-b .now) (a .table-b .now) n (s .pre .a-good) (s .pre .b-good),
+          ∙ (λ i. comparedVisit ps (c .before .before .row-at .ensures i) qs (c .before .row-at2 .ensures i) n)
+          ∙ both-good ps (a .table-a .now) qs (a .table-b .now) n (s .pre .a-good) (s .pre .b-good),
       subst (SplitsInside n) (sym (c .compare .ensures)) (does .1),
     )
 

@@ -648,7 +648,8 @@ module _ (t : ℕ) where
       let small = row-small (high-standsB o) in
       let bad = sym (high-readB (c .before .before)) ∙ not-true _ (c .before .if6 .taken) in
       goes-onB k f h (c .bad-second-due2 .result)
-      (ap (says y) (c .bad-second-due2 .ensures ∙ ap (λ (x : Tally). due (next x) (badSecond + row)) (k .tally-in2 .ensures))
+      (ap (says y)
+      (c .bad-second-due2 .ensures ∙ ap (λ (x : Tally). due (next x) (badSecond + row)) (k .tally-in2 .ensures))
       ∙ reads-second-due tt tt LineA LineB (does s) (highB o) tt y (pred f) (some-level (high-fewerB o) h) row small
       (bad-b _ _ _ _ (highB o) (s .pre .1 .a-good) bad))
 
