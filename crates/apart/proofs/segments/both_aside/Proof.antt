@@ -14,10 +14,13 @@ step-requires : tie.Need-step-requires
 step-requires c κs = search needs
 
 c-at-requires : tie.Need-c-at-requires
-c-at-requires c κs = let p = c .before .pre in (p .0, subst Small (sym (c .step .ensures)) (step-small (p .0) (p .1)), p .2)
+c-at-requires c κs =
+    let p = c .before .pre in (p .0, subst Small (sym (c .step .ensures)) (step-small (p .0) (p .1)), p .2)
 
 c-at-requires-2 : tie.Need-c-at-requires-2
-c-at-requires-2 c κs = let p = c .before .before .pre in (p .0, subst Small (sym (c .before .step .ensures)) (step-small (p .0) (p .1)), p .3)
+c-at-requires-2 c κs =
+    let p = c .before .before .pre in
+    (p .0, subst Small (sym (c .before .step .ensures)) (step-small (p .0) (p .1)), p .3)
 
 one-side-requires : tie.Need-one-side-requires
 one-side-requires c κs = search needs
@@ -26,8 +29,10 @@ returns : tie.Need-returns
 returns c =
     let s = c .before .before .before .before .args in
     let u = c .before .before .before .step .ensures in
-    let p = result w64 (c .before .before .c-at .ok) (c .before .before .c-at .ensures ∙ (λ d. cAt (s .a) (u d) (s .c))) in
-    let q = result w64 (c .before .c-at2 .ok) (c .before .c-at2 .ensures ∙ (λ d. cAt (s .a) (u d) (s .d))) in c .one-side .ensures ∙ (λ d. oneSide (p d) (q d))
+    let call = c .before .before .c-at in
+    let p = result w64 (call .ok) (call .ensures ∙ (λ d. cAt (s .a) (u d) (s .c))) in
+    let q = result w64 (c .before .c-at2 .ok) (c .before .c-at2 .ensures ∙ (λ d. cAt (s .a) (u d) (s .d))) in
+    c .one-side .ensures ∙ (λ d. oneSide (p d) (q d))
 
 pub both-aside-spec : {M : Type 1} → statement M
 both-aside-spec = tie.close (tie.spec step-requires c-at-requires c-at-requires-2 one-side-requires returns)

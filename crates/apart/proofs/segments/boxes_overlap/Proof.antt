@@ -26,8 +26,14 @@ returns c =
     let by : SFits w64 (s .b .y) = search needs in
     let cy : SFits w64 (s .c .y) = search needs in
     let dy : SFits w64 (s .d .y) = search needs in
-    let x = c .before .before .before .before .before .before .ranges-overlap .ensures ∙ (λ d. rangesOverlap (toZ-ofZ ax d) (toZ-ofZ bx d) (toZ-ofZ cx d) (toZ-ofZ dx d)) in
-    let y = c .ranges-overlap2 .ensures ∙ (λ d. rangesOverlap (toZ-ofZ ay d) (toZ-ofZ by d) (toZ-ofZ cy d) (toZ-ofZ dy d)) in
+    let x =
+    c .before .before .before .before .before .before .ranges-overlap .ensures
+    ∙ (λ d. rangesOverlap (toZ-ofZ ax d) (toZ-ofZ bx d) (toZ-ofZ cx d) (toZ-ofZ dx d))
+    in
+    let y =
+    c .ranges-overlap2 .ensures
+    ∙ (λ d. rangesOverlap (toZ-ofZ ay d) (toZ-ofZ by d) (toZ-ofZ cy d) (toZ-ofZ dy d))
+    in
     let e = sym x ∙ c .before .before .before .before .before .if1 .taken in
     y ∙ sym (λ d. e d && rangesOverlap (s .a .y) (s .b .y) (s .c .y) (s .d .y))
 
@@ -38,7 +44,10 @@ returns-2 c =
     let bx : SFits w64 (s .b .x) = search needs in
     let cx : SFits w64 (s .c .x) = search needs in
     let dx : SFits w64 (s .d .x) = search needs in
-    let x = c .before .ranges-overlap .ensures ∙ (λ d. rangesOverlap (toZ-ofZ ax d) (toZ-ofZ bx d) (toZ-ofZ cx d) (toZ-ofZ dx d)) in
+    let x =
+    c .before .ranges-overlap .ensures
+    ∙ (λ d. rangesOverlap (toZ-ofZ ax d) (toZ-ofZ bx d) (toZ-ofZ cx d) (toZ-ofZ dx d))
+    in
     let e = sym x ∙ c .if1 .left in
     c .if1 .left ∙ sym (λ d. e d && rangesOverlap (s .a .y) (s .b .y) (s .c .y) (s .d .y))
 

@@ -15,7 +15,8 @@ returns c =
     let ep = toZ-ofZ (c .before .fits .p) in
     let above : ltZ (pos 0) p ≡ true = sym (λ d. ltZ (pos 0) (ep d)) ∙ c .if1 .taken in
     let below : ltZ p (pos 0) ≡ false = lt-false (<ℤ-weaken (lt-yes refl ep (c .if1 .taken))) in
-    (λ d. ltZ (pos 0) (toZ-ofZ (c .before .fits .q) d)) ∙ sym ((λ d. (above d && ltZ (pos 0) q) || (below d && ltZ q (pos 0))) ∙ or-false (ltZ (pos 0) q))
+    (λ d. ltZ (pos 0) (toZ-ofZ (c .before .fits .q) d))
+    ∙ sym ((λ d. (above d && ltZ (pos 0) q) || (below d && ltZ q (pos 0))) ∙ or-false (ltZ (pos 0) q))
 
 returns-2 : tie.Need-returns-2
 returns-2 c =
@@ -24,7 +25,8 @@ returns-2 c =
     let ep = toZ-ofZ (c .before .before .fits .p) in
     let above : ltZ (pos 0) p ≡ false = sym (λ d. ltZ (pos 0) (ep d)) ∙ c .before .if1 .left in
     let below : ltZ p (pos 0) ≡ true = sym (λ d. ltZ (ep d) (pos 0)) ∙ c .if2 .taken in
-    (λ d. ltZ (toZ-ofZ (c .before .before .fits .q) d) (pos 0)) ∙ sym (λ d. (above d && ltZ (pos 0) q) || (below d && ltZ q (pos 0)))
+    (λ d. ltZ (toZ-ofZ (c .before .before .fits .q) d) (pos 0))
+    ∙ sym (λ d. (above d && ltZ (pos 0) q) || (below d && ltZ q (pos 0)))
 
 returns-3 : tie.Need-returns-3
 returns-3 c =

@@ -29,11 +29,13 @@ returns c =
     let b = toZ-ofZ (s .fits .b) in
     let p = toZ-ofZ (s .fits .c) in
     let q = toZ-ofZ (s .fits .d) in
-    let low = result w64 (c .before .before .before .before .lesser .ok) (c .before .before .before .before .lesser .ensures ∙ (λ d. minZ (a d) (b d))) in
-    let high = result w64 (c .before .before .before .greater .ok) (c .before .before .before .greater .ensures ∙ (λ d. maxZ (p d) (q d))) in
+    let f = c .before .before .before in
+    let low = result w64 (f .before .lesser .ok) (f .before .lesser .ensures ∙ (λ d. minZ (a d) (b d))) in
+    let high = result w64 (f .greater .ok) (f .greater .ensures ∙ (λ d. maxZ (p d) (q d))) in
     let low2 = result w64 (c .before .lesser2 .ok) (c .before .lesser2 .ensures ∙ (λ d. minZ (p d) (q d))) in
     let high2 = result w64 (c .greater2 .ok) (c .greater2 .ensures ∙ (λ d. maxZ (a d) (b d))) in
-    let e = sym (λ d. leZ (low d) (high d)) ∙ c .before .before .if1 .taken in (λ d. leZ (low2 d) (high2 d)) ∙ sym (λ d. e d && leZ (low2 1) (high2 1))
+    let e = sym (λ d. leZ (low d) (high d)) ∙ c .before .before .if1 .taken in
+    (λ d. leZ (low2 d) (high2 d)) ∙ sym (λ d. e d && leZ (low2 1) (high2 1))
 
 returns-2 : tie.Need-returns-2
 returns-2 c =
@@ -42,8 +44,9 @@ returns-2 c =
     let b = toZ-ofZ (s .fits .b) in
     let p = toZ-ofZ (s .fits .c) in
     let q = toZ-ofZ (s .fits .d) in
-    let low = result w64 (c .before .before .lesser .ok) (c .before .before .lesser .ensures ∙ (λ d. minZ (a d) (b d))) in
-    let high = result w64 (c .before .greater .ok) (c .before .greater .ensures ∙ (λ d. maxZ (p d) (q d))) in
+    let f = c .before in
+    let low = result w64 (f .before .lesser .ok) (f .before .lesser .ensures ∙ (λ d. minZ (a d) (b d))) in
+    let high = result w64 (f .greater .ok) (f .greater .ensures ∙ (λ d. maxZ (p d) (q d))) in
     let e = sym (λ d. leZ (low d) (high d)) ∙ c .if1 .left in
     c .if1 .left ∙ sym (λ d. e d && leZ (minZ (s .args .c) (s .args .d)) (maxZ (s .args .a) (s .args .b)))
 

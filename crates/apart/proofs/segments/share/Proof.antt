@@ -15,7 +15,9 @@ returns : tie.Need-returns
 unfolding share
 returns c =
     let s = c .before .before .args in
-    let e : boxesOverlap (s .a) (s .b) (s .c) (s .d) ≡ false = sym (c .before .boxes-overlap .ensures) ∙ not-true _ (c .if1 .taken) in
+    let e : boxesOverlap (s .a) (s .b) (s .c) (s .d) ≡ false =
+    sym (c .before .boxes-overlap .ensures) ∙ not-true _ (c .if1 .taken)
+    in
     sym (λ i. e i && not (bothAside (s .a) (s .b) (s .c) (s .d)) && not (bothAside (s .c) (s .d) (s .a) (s .b)))
 
 both-aside-requires : tie.Need-both-aside-requires
@@ -25,7 +27,9 @@ returns-2 : tie.Need-returns-2
 unfolding share
 returns-2 c =
     let s = c .before .before .before .before .args in
-    let e : boxesOverlap (s .a) (s .b) (s .c) (s .d) ≡ true = sym (c .before .before .before .boxes-overlap .ensures) ∙ not-false _ (c .before .before .if1 .left) in
+    let e : boxesOverlap (s .a) (s .b) (s .c) (s .d) ≡ true =
+    sym (c .before .before .before .boxes-overlap .ensures) ∙ not-false _ (c .before .before .if1 .left)
+    in
     let f : bothAside (s .a) (s .b) (s .c) (s .d) ≡ true = sym (c .before .both-aside .ensures) ∙ c .if2 .taken in
     sym (λ i. e i && not (f i) && not (bothAside (s .c) (s .d) (s .a) (s .b)))
 
@@ -36,8 +40,12 @@ returns-3 : tie.Need-returns-3
 unfolding share
 returns-3 c =
     let s = c .before .before .before .before .before .args in
-    let e : boxesOverlap (s .a) (s .b) (s .c) (s .d) ≡ true = sym (c .before .before .before .before .boxes-overlap .ensures) ∙ not-false _ (c .before .before .before .if1 .left) in
-    let f : bothAside (s .a) (s .b) (s .c) (s .d) ≡ false = sym (c .before .before .both-aside .ensures) ∙ c .before .if2 .left in
+    let e : boxesOverlap (s .a) (s .b) (s .c) (s .d) ≡ true =
+    sym (c .before .before .before .before .boxes-overlap .ensures) ∙ not-false _ (c .before .before .before .if1 .left)
+    in
+    let f : bothAside (s .a) (s .b) (s .c) (s .d) ≡ false =
+    sym (c .before .before .both-aside .ensures) ∙ c .before .if2 .left
+    in
     ap not (c .both-aside2 .ensures) ∙ sym (λ i. e i && not (f i) && not (bothAside (s .c) (s .d) (s .a) (s .b)))
 
 pub share-spec : {M : Type 1} → statement M

@@ -22,8 +22,9 @@ strip-apart-requires c κs = search needs
 returns-2 : tie.Need-returns-2
 unfolding apart
 returns-2 c =
-    let a = c .before .before .before .before .args in
-    let e : boxesApart (a .r) (a .q) ≡ false = sym (c .before .before .before .boxes-apart .ensures) ∙ c .before .before .if1 .left in
+    let k = c .before .before in
+    let a = k .before .before .args in
+    let e : boxesApart (a .r) (a .q) ≡ false = sym (k .before .boxes-apart .ensures) ∙ k .if1 .left in
     let f : stripApart (a .r) (a .s) (a .u) (a .q) ≡ true = sym (c .before .strip-apart .ensures) ∙ c .if2 .taken in
     sym (λ i. e i || f i || stripApart (a .q) (a .s2) (a .u2) (a .r))
 
@@ -33,9 +34,11 @@ strip-apart-requires-2 c κs = search needs
 returns-3 : tie.Need-returns-3
 unfolding apart
 returns-3 c =
-    let a = c .before .before .before .before .before .args in
-    let e : boxesApart (a .r) (a .q) ≡ false = sym (c .before .before .before .before .boxes-apart .ensures) ∙ c .before .before .before .if1 .left in
-    let f : stripApart (a .r) (a .s) (a .u) (a .q) ≡ false = sym (c .before .before .strip-apart .ensures) ∙ c .before .if2 .left in
+    let l = c .before in
+    let k = l .before .before in
+    let a = k .before .before .args in
+    let e : boxesApart (a .r) (a .q) ≡ false = sym (k .before .boxes-apart .ensures) ∙ k .if1 .left in
+    let f : stripApart (a .r) (a .s) (a .u) (a .q) ≡ false = sym (l .before .strip-apart .ensures) ∙ l .if2 .left in
     c .strip-apart2 .ensures ∙ sym (λ i. e i || f i || stripApart (a .q) (a .s2) (a .u2) (a .r))
 
 pub apart-spec : {M : Type 1} → statement M

@@ -43,29 +43,42 @@ sub-fits k l = safe-step 2 difference 0 (in-abs k tt & in-abs l tt & nil) tt
 mul-fits : {v e s : ℤ} → Abs≤ 32766 v → Abs≤ 16383 e → Abs≤ 16383 s → SFits w64 (back v *ℤ back (back e -ℤ back s))
 mul-fits h k l = safe-step 3 part 1 (in-abs h tt & in-abs k tt & in-abs l tt & nil) tt
 
+-- the places after each part, and where they started
+abbrev after-west : tie.After-struct-told3 → tie.Start
+after-west c = c .before .before .before .before .before .before
+
+abbrev after-east : tie.After-struct-told6 → tie.Start
+after-east c = after-west (c .before .before .before .before .before .before)
+
+abbrev after-south : tie.After-struct-told9 → tie.Start
+after-south c = after-east (c .before .before .before .before .before .before)
+
+abbrev after-north : tie.After-struct-told12 → tie.Start
+after-north c = after-south (c .before .before .before .before .before .before)
+
 sub-west : tie.Need-sub-west
 sub-west c = search (sub-fits, c .before .before .before .before .pre)
 
 mul-west : tie.Need-mul-west
-mul-west c = search (mul-fits, c .before .before .before .before .before .before .pre)
+mul-west c = search (mul-fits, after-west c .pre)
 
 sub-east : tie.Need-sub-east
-sub-east c = search (sub-fits, c .before .before .before .before .before .before .before .before .before .before .pre)
+sub-east c = search (sub-fits, after-west (c .before .before .before .before) .pre)
 
 mul-east : tie.Need-mul-east
-mul-east c = search (mul-fits, c .before .before .before .before .before .before .before .before .before .before .before .before .pre)
+mul-east c = search (mul-fits, after-east c .pre)
 
 sub-south : tie.Need-sub-south
-sub-south c = search (sub-fits, c .before .before .before .before .before .before .before .before .before .before .before .before .before .before .before .before .pre)
+sub-south c = search (sub-fits, after-east (c .before .before .before .before) .pre)
 
 mul-south : tie.Need-mul-south
-mul-south c = search (mul-fits, c .before .before .before .before .before .before .before .before .before .before .before .before .before .before .before .before .before .before .pre)
+mul-south c = search (mul-fits, after-south c .pre)
 
 sub-north : tie.Need-sub-north
-sub-north c = search (sub-fits, c .before .before .before .before .before .before .before .before .before .before .before .before .before .before .before .before .before .before .before .before .before .before .pre)
+sub-north c = search (sub-fits, after-south (c .before .before .before .before) .pre)
 
 mul-north : tie.Need-mul-north
-mul-north c = search (mul-fits, c .before .before .before .before .before .before .before .before .before .before .before .before .before .before .before .before .before .before .before .before .before .before .before .before .pre)
+mul-north c = search (mul-fits, after-north c .pre)
 
 -- ---------------- the sums
 -- the size of a part
@@ -93,8 +106,12 @@ max-picks x y h k = cond-ind (ltZ x y) y x (Abs≤ largest) (λ _. k) (λ _. h)
 min-picks : Picks minZ
 min-picks x y h k = cond-ind (ltZ x y) x y (Abs≤ largest) (λ _. h) (λ _. k)
 
-is-picked : {a b r x y : ℤ} (m : ℤ → ℤ → ℤ) → Picks m → Is a x → Is b y → mag r < 2 ^ 63 → r ≡ m a b → Is (back r) (m x y)
-is-picked {x} {y} m p h k f e = record { same = result w64 f (e ∙ (λ d. m (h .same d) (k .same d))); small = p x y (h .small) (k .small) }
+is-picked : {a b r x y : ℤ} (m : ℤ → ℤ → ℤ) → Picks m → Is a x → Is b y → mag r < 2 ^ 63 → r ≡ m a b
+    → Is (back r) (m x y)
+is-picked {x} {y} m p h k f e = record {
+  same = result w64 f (e ∙ (λ d. m (h .same d) (k .same d)));
+  small = p x y (h .small) (k .small);
+}
 
 -- the sum of a and b fits, and is x
 record Adds (a b x : ℤ) : Type 0 where
@@ -103,7 +120,8 @@ record Adds (a b x : ℤ) : Type 0 where
 
 adds : {a b x y : ℤ} → Is a x → Is b y → Adds a b (x +ℤ y)
 adds h k =
-    let f = fits-of w64 (abs-at (sym (λ d. h .same d +ℤ k .same d)) (within 2 (λ x y. x :+ y) (h .small & k .small & nil))) tt in
+    let small = within 2 (λ x y. x :+ y) (h .small & k .small & nil) in
+    let f = fits-of w64 (abs-at (sym (λ d. h .same d +ℤ k .same d)) small) tt in
     record { fit = f; is = toZ-ofZ f ∙ (λ d. h .same d +ℤ k .same d) }
 
 -- f of what comes in
@@ -112,8 +130,10 @@ at f c = f (c .args .s) (c .args .v) (c .args .q)
 
 -- what two calls picked of the parts in x and of those in y
 adds-picked : (c : tie.Start) (m : ℤ → ℤ → ℤ) {r r′ : ℤ} → Picks m
-    → mag r < 2 ^ 63 → r ≡ m (held (c .args .v .x) (c .args .q .xmin) (c .args .s .x)) (held (c .args .v .x) (c .args .q .xmax) (c .args .s .x))
-    → mag r′ < 2 ^ 63 → r′ ≡ m (held (c .args .v .y) (c .args .q .ymin) (c .args .s .y)) (held (c .args .v .y) (c .args .q .ymax) (c .args .s .y))
+    → mag r < 2 ^ 63
+    → let a = c .args in r ≡ m (held (a .v .x) (a .q .xmin) (a .s .x)) (held (a .v .x) (a .q .xmax) (a .s .x))
+    → mag r′ < 2 ^ 63
+    → r′ ≡ m (held (a .v .y) (a .q .ymin) (a .s .y)) (held (a .v .y) (a .q .ymax) (a .s .y))
     → Adds (back r) (back r′) (m (at west c) (at east c) +ℤ m (at south c) (at north c))
 adds-picked c m p f e f′ e′ =
     let s = c .pre .0 in
@@ -129,18 +149,22 @@ greater-requires-2 : tie.Need-greater-requires-2
 greater-requires-2 c κs = search needs
 
 abbrev start : tie.After-greater2 → tie.Start
-start c = c .before .before .before .before .before .before .before .before .before .before .before .before .before .before .before .before .before .before .before .before .before .before .before .before .before .before
+start c = after-north (c .before .before)
 
-adds-greatest : (c : tie.After-greater2) → Adds (back (c .before .greater .result)) (back (c .greater2 .result)) (at greatest (start c))
+adds-greatest : (c : tie.After-greater2)
+    → Adds (back (c .before .greater .result)) (back (c .greater2 .result)) (at greatest (start c))
 adds-greatest c =
-    adds-picked (start c) maxZ max-picks (c .before .greater .ok) (c .before .greater .ensures) (c .greater2 .ok) (c .greater2 .ensures)
+    adds-picked (start c) maxZ max-picks (c .before .greater .ok) (c .before .greater .ensures)
+    (c .greater2 .ok) (c .greater2 .ensures)
 
 add-if1 : tie.Need-add-if1
 add-if1 c = adds-greatest c .fit
 
 -- ---------------- the tests
 -- what the first says, b, and then the second
-both : (c : tie.After-greater2) {b : Bool} → let a = start c .args in ltZ (back (back (c .before .greater .result) +ℤ back (c .greater2 .result))) (back (a .lo)) ≡ b
+both : (c : tie.After-greater2) {b : Bool}
+    → let a = start c .args in
+    ltZ (back (back (c .before .greater .result) +ℤ back (c .greater2 .result))) (back (a .lo)) ≡ b
     → (b || ltZ (a .hi) (at least (start c))) ≡ beyondCorners (tAt (a .s) (a .v)) (a .lo) (a .hi) (a .q)
 both c t =
     let a = start c .args in
@@ -156,9 +180,11 @@ lesser-requires c κs = search needs
 lesser-requires-2 : tie.Need-lesser-requires-2
 lesser-requires-2 c κs = search needs
 
-adds-least : (c : tie.After-lesser2) → Adds (back (c .before .lesser .result)) (back (c .lesser2 .result)) (at least (start (c .before .before .before)))
+adds-least : (c : tie.After-lesser2)
+    → Adds (back (c .before .lesser .result)) (back (c .lesser2 .result)) (at least (start (c .before .before .before)))
 adds-least c =
-    adds-picked (start (c .before .before .before)) minZ min-picks (c .before .lesser .ok) (c .before .lesser .ensures) (c .lesser2 .ok) (c .lesser2 .ensures)
+    adds-picked (start (c .before .before .before)) minZ min-picks (c .before .lesser .ok) (c .before .lesser .ensures)
+    (c .lesser2 .ok) (c .lesser2 .ensures)
 
 add-result : tie.Need-add-result
 add-result c = adds-least c .fit

@@ -23,16 +23,20 @@ turned-requires c κs = search needs
 
 beyond-requires : tie.Need-beyond-requires
 beyond-requires c κs =
-    let small = subst Small (sym (c .before .before .turned .ensures)) (turned-small (c .before .before .before .pre .1)) in search small
+    let t = c .before .before in
+    let small = subst Small (sym (t .turned .ensures)) (turned-small (t .before .pre .1)) in search small
 
 -- what the first call says of c
-first : (c : tie.After-beyond) → let a = c .before .before .before .before .args in c .beyond .result ≡ beyondCorners (cAt (a .s) (a .u)) (a .r .cmin) (a .r .cmax) (a .q)
+first : (c : tie.After-beyond)
+    → let a = c .before .before .before .before .args in
+    c .beyond .result ≡ beyondCorners (cAt (a .s) (a .u)) (a .r .cmin) (a .r .cmax) (a .q)
 first c =
     let a = c .before .before .before .before .args in
+    let t = c .before .before .before .turned in
     let lo : SFits w64 (a .r .cmin) = search needs in
     let hi : SFits w64 (a .r .cmax) = search needs in
     c .beyond .ensures
-    ∙ (λ i. beyondCorners (tAt (a .s) (c .before .before .before .turned .ensures i)) (toZ-ofZ lo i) (toZ-ofZ hi i) (a .q))
+    ∙ (λ i. beyondCorners (tAt (a .s) (t .ensures i)) (toZ-ofZ lo i) (toZ-ofZ hi i) (a .q))
     ∙ sym (beyond-turned (a .s) (a .u) (a .r .cmin) (a .r .cmax) (a .q))
 
 returns : tie.Need-returns

@@ -20,7 +20,10 @@ returns : tie.Need-returns
 returns c =
     let u = c .before .before .before .args .u in
     let p = c .before .before .before .pre in
-    let y = reads 1 formula {ts = (w64, 32766) ∷ []} (in-abs (p .y-in) tt & nil) tt ∙ ring 1 (λ y. con (pos 0) :- y := :neg y) tt (u .y) in
+    let y =
+    reads 1 formula {ts = (w64, 32766) ∷ []} (in-abs (p .y-in) tt & nil) tt
+    ∙ ring 1 (λ y. con (pos 0) :- y := :neg y) tt (u .y)
+    in
     λ d. record { x = y d; y = stored (p .x-in) tt d }
 
 pub turned-spec : {M : Type 1} → statement M
