@@ -177,13 +177,11 @@ fn walk(
     x: i64,
     y: i64,
     reach: i64,
-    allowance: u32,
-    visits: u32,
+    tally: Tally,
 ) -> u64
     requires { ⌜ Stands (now (now points)) (now (now table)) (record { row = row; first = first; last = last }) × EndsOn (now (now points)) (record { row = row; first = first; last = last }) × OnSheet (record { x = x; y = y }) × Abs≤ (farthest * farthest) reach ⌝ }
-    ensures { λ r. ⌜ ((l m : Line) (f : ℕ) (D : ℤ) → reach ≡ D *ℤ D → last ≤ f + first → cameTo tt tt l m allowance r ≡ walk (nearVisit l (now (now (points .entry))) (now (now (table .entry))) (record { x = x; y = y }) D) f (record { row = row; first = first; last = last }) tt (record { allowance = allowance; visits = visits })) ⌝ }
+    ensures { λ r. ⌜ ((l m : Line) (f : ℕ) (D : ℤ) → reach ≡ D *ℤ D → last ≤ f + first → cameTo tt tt l m (tally .allowance) r ≡ walk (nearVisit l (now (now (points .entry))) (now (now (table .entry))) (record { x = x; y = y }) D) f (record { row = row; first = first; last = last }) tt tally) ⌝ }
 {
-    let tally = Tally { allowance, visits };
     let Next::Left(counted) = tally.visit() else {
         return ends::came(0, ends::SPENT);
     };
@@ -199,12 +197,12 @@ fn walk(
                 return ends::bad_row_due(counted, low);
             }
             let high = row + 2 * (mid - first);
-            let left = walk(points, table, low, first, mid, x, y, reach, allowance, made);
+            let left = walk(points, table, low, first, mid, x, y, reach, counted);
             if ends::stopped(left) {
                 return left;
             }
-            let made = ends::visits_in(left);
-            walk(points, table, high, mid, last, x, y, reach, allowance, made)
+            let rest = ends::tally_in(counted.allowance, left);
+            walk(points, table, high, mid, last, x, y, reach, rest)
         }
     }
 }
@@ -215,18 +213,7 @@ pub fn ask(points: &&[i32], table: &&[i32], z: Point, d: i64, tally: Tally) -> u
     ensures { λ r. ⌜ ((l m : Line) → cameTo tt tt l m (tally .allowance) r ≡ nearWalk l (now (now (points .entry))) (now (now (table .entry))) z d tally) ⌝ }
 {
     let last = points.len() / 2 - 1;
-    walk(
-        points,
-        table,
-        0,
-        0,
-        last,
-        z.x,
-        z.y,
-        d * d,
-        tally.allowance,
-        tally.visits,
-    )
+    walk(points, table, 0, 0, last, z.x, z.y, d * d, tally)
 }
 
 // The same, wherever the line begins and ends: off the sheet its root's row is bad.

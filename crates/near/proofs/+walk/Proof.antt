@@ -15,7 +15,7 @@ use Rattle.rules.specs.declared.Point.{Point}
 use Rattle.rules.specs.declared.Tally.{Tally}
 use Rattle.rules.specs.declared.Next.the-variants.{Left, Spent}
 use Rattle.rules.specs.Sheet.{point, onSheet}
-use Rattle.rules.specs.Walk.{next, Visit, Walked, ended, over, goOn}
+use Rattle.rules.specs.Walk.{next, Visit, Walked, goOn}
 use Rattle.rules.specs.Walk.{walk as writtenWalk}
 use Rattle.rules.specs.Questions.{Nothing, leftOf, rightOf, nearVisit}
 use Rattle.visits.proofs.Levels.{none-left, visited, halved}
@@ -41,7 +41,7 @@ use Rattle.ends.proofs.bad_row.Reads as bad-row-reads
 use Rattle.ends.proofs.bad_row_due.Reads as bad-row-due-reads
 use Rattle.ends.proofs.came.Reads as came-reads
 use Rattle.ends.proofs.stopped.Reads as stopped-reads
-use Rattle.ends.proofs.visits_in.Reads as visits-in-reads
+use Rattle.ends.proofs.tally_in.Reads as tally-in-reads
 use Rattle.rules.proofs.Tally.visit.Reads as Tally-visit-reads
 use Rattle.near.proofs.+walk.{statement}
 use Rattle.near.proofs.+walk.Tie.{close}
@@ -76,8 +76,8 @@ claims t = (
   walk.Post,
   stopped-reads.Asked,
   stopped-reads.Learnt,
-  visits-in-reads.Asked,
-  visits-in-reads.Learnt,
+  tally-in-reads.Asked,
+  tally-in-reads.Learnt,
 )
 
 module _ (t : ℕ) where
@@ -122,18 +122,12 @@ module _ (t : ℕ) where
   abbrev z : Start → Point
   z s = record { x = s .args .x; y = s .args .y }
 
-  abbrev tally : Start → Tally
-  tally s = record { allowance = s .args .allowance; visits = s .args .visits }
-
-  -- how it comes to its end, what a visit of the node does, and the written walk from it
-  abbrev comes : Start → Line → Line → ℕ → Walked Nothing
-  comes s l m r = cameTo tt tt l m (s .args .allowance) r
-
+  -- what a visit of the node does, and the written walk from it
   abbrev does : Start → Line → ℤ → Node → Visit Nothing Node
   does s l D = nearVisit l (ps s) (rows s) (z s) D
 
   abbrev walks : Start → Line → ℕ → ℤ → Walked Nothing
-  walks s l f D = writtenWalk (does s l D) f (node s) tt (tally s)
+  walks s l f D = writtenWalk (does s l D) f (node s) tt (s .args .tally)
 
   -- the distance squared, as it is handed on
   reach : (s : Start) (D : ℤ) → s .args .reach ≡ D *ℤ D → toZ w64 (ofZ w64 (s .args .reach)) ≡ D *ℤ D
@@ -147,11 +141,15 @@ module _ (t : ℕ) where
   abbrev counted : Seen → Tally
   counted c = c .before .before .before .before .counted .given .0 .0
 
-  made : (c : Seen) → next (tally (origin c)) ≡ Left (counted c)
+  made : (c : Seen) → next (origin c .args .tally) ≡ Left (counted c)
   made c = sym (c .before .before .before .before .before .before .visit .ensures) ∙ c .before .before .before .before .counted .given .1
 
-  kept : (c : Seen) → counted c .allowance ≡ origin c .args .allowance
-  kept c = keeps (tally (origin c)) (counted c) (made c)
+  -- how it comes to its end, and the same by the allowance of the tally that it began with, for that is kept
+  abbrev comes : Seen → Line → Line → ℕ → Walked Nothing
+  comes c l m r = cameTo tt tt l m (counted c .allowance) r
+
+  told : (c : Seen) (l m : Line) (r : ℕ) → cameTo tt tt l m (origin c .args .tally .allowance) r ≡ comes c l m r
+  told c l m r = ap (λ k. cameTo tt tt l m k r) (sym (keeps (origin c .args .tally) (counted c) (made c)))
 
   seen : (c : Seen) (l : Line) (D : ℤ) → origin c .args .reach ≡ D *ℤ D → {v : Visited} → c .visit2 .result ≡ v
       → visitOf l (node (origin c)) v ≡ does (origin c) l D (node (origin c))
@@ -175,10 +173,11 @@ module _ (t : ℕ) where
   returns : walk-lts.Need-returns (claims t) (walk-at t) walk.Post
   returns c l m f D q h =
       let s = c .before .before .before .before in
-      let e : next (tally s) ≡ Spent = cc in
-      ap (comes s l m) (c .came .ensures)
-      ∙ reads-spent tt tt l m (s .args .allowance) 0
-      ∙ none-left (does s l D) (node s) tt (tally s) f (some-level s h) e
+      let y = s .args .tally in
+      let e : next y ≡ Spent = cc in
+      ap (cameTo tt tt l m (y .allowance)) (c .came .ensures)
+      ∙ reads-spent tt tt l m (y .allowance) 0
+      ∙ none-left (does s l D) (node s) tt y f (some-level s h) e
 
   visit-requires-2 : walk-lts.Need-visit-requires-2 (claims t) (walk-at t) walk.Post
   visit-requires-2 c κs = let p = c .before .before .before .before .before .before .pre .1 in (p .0, p .1, stored-on (p .2), stored-abs (p .3) tt)
@@ -237,7 +236,7 @@ module _ (t : ℕ) where
   after c l f D q h e =
       let s = begin c in
       let w = c .before .before .before in
-      halved (does s l D) (node s) tt (tally s) f (some-level s h) (made w) (seen w l D q (c .before .mid .given .1)) e
+      halved (does s l D) (node s) tt (s .args .tally) f (some-level s h) (made w) (seen w l D q (c .before .mid .given .1)) e
 
   -- ---------------- the split is off the sheet: the left child's row is bad
   low-small : (c : Opened) → begin c .args .row + 1 < 8193
@@ -257,11 +256,10 @@ module _ (t : ℕ) where
       let off = sym (on-said (c .before .before)) ∙ not-true _ (c .before .if1 .taken) in
       let bad = end-bad l (ps s) (rows s) (z s) D (left o) off in
       let due-at = due (next (counted w)) (badRow + low) in
-      ap (comes s l m) (c .bad-row-due .ensures)
-      ∙ sym (stops tt tt l m (s .args .allowance) due-at (right o l f D) (due-stops (next (counted w)) (badRow + low) (omega arith) (omega arith)))
-      ∙ after o l f D q h
-      (ap (λ k. cameTo tt tt l m k due-at) (sym (kept w))
-      ∙ reads-bad-due tt tt l m (does s l D) (left o) tt (counted w) (pred f) (omega arith) low small bad)
+      told w l m (c .bad-row-due .result)
+      ∙ ap (comes w l m) (c .bad-row-due .ensures)
+      ∙ sym (stops tt tt l m (counted w .allowance) due-at (right o l f D) (due-stops (next (counted w)) (badRow + low) (omega arith) (omega arith)))
+      ∙ after o l f D q h (reads-bad-due tt tt l m (does s l D) (left o) tt (counted w) (pred f) (omega arith) low small bad)
 
   -- ---------------- it is on the sheet
   abbrev opened : LeftDue → Opened
@@ -298,7 +296,7 @@ module _ (t : ℕ) where
   -- the left half is walked: what is left to do is the walk
   after-left : (c : LeftWalked) (l m : Line) (f : ℕ) (D : ℤ) → begin (opened (c .before)) .args .reach ≡ D *ℤ D
       → begin (opened (c .before)) .args .last ≤ f + begin (opened (c .before)) .args .first
-      → goOn (comes (begin (opened (c .before))) l m (c .walk .result)) (right (opened (c .before)) l f D) ≡ walks (begin (opened (c .before))) l f D
+      → goOn (comes (opened (c .before) .before .before .before) l m (c .walk .result)) (right (opened (c .before)) l f D) ≡ walks (begin (opened (c .before))) l f D
   after-left c l m f D q h =
       let o = opened (c .before) in
       let s = begin o in
@@ -307,17 +305,19 @@ module _ (t : ℕ) where
       let p = point-stored (s .pre .1 .2) in
       after o l f D q h
       (c .walk .ensures l m (pred f) D (reach s D q) (omega arith)
-      ∙ (λ j. writtenWalk (nearVisit l (ps s) (rows s) (p j) D) (pred f) (left o) tt (record { allowance = sym (kept w) j; visits = counted w .visits })))
+      ∙ (λ j. writtenWalk (nearVisit l (ps s) (rows s) (p j) D) (pred f) (left o) tt (counted w)))
 
   returns-3 : walk-lts.Need-returns-3 (claims t) (walk-at t) walk.Post
   returns-3 c l m f D q h =
       let w = c .before .before in
       let o = opened (w .before) in
-      sym (stops tt tt l m (begin o .args .allowance) (w .walk .result) (right o l f D) (sym (c .before .stopped .ensures) ∙ c .if2 .taken))
+      let v = o .before .before .before in
+      told v l m (w .walk .result)
+      ∙ sym (stops tt tt l m (counted v .allowance) (w .walk .result) (right o l f D) (sym (c .before .stopped .ensures) ∙ c .if2 .taken))
       ∙ after-left w l m f D q h
 
-  visits-in-requires : walk-lts.Need-visits-in-requires (claims t) (walk-at t) walk.Post
-  visits-in-requires c κs = search needs
+  tally-in-requires : walk-lts.Need-tally-in-requires (claims t) (walk-at t) walk.Post
+  tally-in-requires c κs = search needs
 
   walk-requires-2 : walk-lts.Need-walk-requires-2 (claims t) (walk-at t) walk.Post
   walk-requires-2 c κs =
@@ -333,29 +333,30 @@ module _ (t : ℕ) where
       let w = c .before .before .before in
       let s = origin w in
       let e : w .visit2 .result ≡ Bad = cc in
-      ap (comes s l m) (c .bad-row .ensures)
-      ∙ reads-bad tt tt l m (s .args .allowance) (counted w .visits) (s .args .row) (row-small (s .pre .1 .0))
-      ∙ visited (does s l D) (node s) tt (tally s) f (some-level s h) (made w) (seen w l D q e)
+      told w l m (c .bad-row .result)
+      ∙ ap (comes w l m) (c .bad-row .ensures)
+      ∙ reads-bad tt tt l m (counted w .allowance) (counted w .visits) (s .args .row) (row-small (s .pre .1 .0))
+      ∙ visited (does s l D) (node s) tt (s .args .tally) f (some-level s h) (made w) (seen w l D q e)
 
   returns-5 : walk-lts.Need-returns-5 (claims t) (walk-at t) walk.Post
   returns-5 c l m f D q h =
       let w = c .before .before .before in
       let s = origin w in
       let e : w .visit2 .result ≡ Finish = cc in
-      ap (comes s l m) (c .came2 .ensures)
-      ∙ reads-ended tt tt l m (s .args .allowance) (counted w .visits)
-      ∙ ap (λ k. ended (record { allowance = k; visits = counted w .visits })) (sym (kept w))
-      ∙ visited (does s l D) (node s) tt (tally s) f (some-level s h) (made w) (seen w l D q e)
+      told w l m (c .came2 .result)
+      ∙ ap (comes w l m) (c .came2 .ensures)
+      ∙ reads-ended tt tt l m (counted w .allowance) (counted w .visits)
+      ∙ visited (does s l D) (node s) tt (s .args .tally) f (some-level s h) (made w) (seen w l D q e)
 
   returns-6 : walk-lts.Need-returns-6 (claims t) (walk-at t) walk.Post
   returns-6 c l m f D q h =
       let w = c .before .before .before in
       let s = origin w in
       let e : w .visit2 .result ≡ Pass = cc in
-      ap (comes s l m) (c .came3 .ensures)
-      ∙ reads-even tt tt l m (s .args .allowance) (counted w .visits)
-      ∙ ap (λ k. over tt (record { allowance = k; visits = counted w .visits })) (sym (kept w))
-      ∙ visited (does s l D) (node s) tt (tally s) f (some-level s h) (made w) (seen w l D q e)
+      told w l m (c .came3 .result)
+      ∙ ap (comes w l m) (c .came3 .ensures)
+      ∙ reads-even tt tt l m (counted w .allowance) (counted w .visits)
+      ∙ visited (does s l D) (node s) tt (s .args .tally) f (some-level s h) (made w) (seen w l D q e)
 
   -- ---------------- the right half
   returns-7 : walk-lts.Need-returns-7 (claims t) (walk-at t) walk.Post
@@ -365,10 +366,13 @@ module _ (t : ℕ) where
       let s = begin o in
       let i = inside o in
       let p = point-stored (s .pre .1 .2) in
-      let v = c .before .visits-in .ensures in
-      c .walk2 .ensures l m (pred f) D (reach s D q) (omega arith)
-      ∙ (λ j. writtenWalk (nearVisit l (ps s) (rows s) (p j) D) (pred f) (rightOf (node s) (mid o)) tt (record { allowance = s .args .allowance; visits = v j }))
-      ∙ sym (goes tt tt l m (s .args .allowance) (w .walk .result) (right o l f D) (sym (c .before .before .before .stopped .ensures) ∙ c .before .before .if2 .left))
+      let v = o .before .before .before in
+      let y = c .before .tally-in .ensures in
+      told v l m (c .walk2 .result)
+      ∙ ap (λ (x : Tally). cameTo tt tt l m (x .allowance) (c .walk2 .result)) (sym y)
+      ∙ c .walk2 .ensures l m (pred f) D (reach s D q) (omega arith)
+      ∙ (λ j. writtenWalk (nearVisit l (ps s) (rows s) (p j) D) (pred f) (rightOf (node s) (mid o)) tt (y j))
+      ∙ sym (goes tt tt l m (counted v .allowance) (w .walk .result) (right o l f D) (sym (c .before .before .before .stopped .ensures) ∙ c .before .before .if2 .left))
       ∙ after-left w l m f D q h
 
 pub +walk-spec : {M : Type 1} → statement M
@@ -399,7 +403,7 @@ pub +walk-spec : {M : Type 1} → statement M
     (walk-requires t)
     (stopped-requires t)
     (returns-3 t)
-    (visits-in-requires t)
+    (tally-in-requires t)
     (walk-requires-2 t)
     (returns-4 t)
     (returns-5 t)
