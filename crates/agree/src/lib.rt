@@ -31,44 +31,28 @@ struct Stopped {
 }
 
 // Point i of a line against the other: refusal 8, then the walk.
-fn ask_point(
-    points: &[i32],
-    i: usize,
-    theirs: &&[i32],
-    table: &&[i32],
-    d: i64,
-    allowance: u32,
-    visits: u32,
-) -> u64
+fn ask_point(points: &[i32], i: usize, theirs: &&[i32], table: &&[i32], d: i64, tally: Tally) -> u64
     requires { ⌜ (2 * i + 1 < length (now points)) × LengthsFine (now (now theirs)) (now (now table)) × T (endsGood (now (now theirs)) 0 (segmentsOf (now (now theirs)))) × Abs≤ farthest d ⌝ }
-    ensures { λ r. ⌜ ((line other : Line) → asked line other i allowance r ≡ askAll line (now (points .entry)) other (now (now (theirs .entry))) (now (now (table .entry))) d i 1 (record { allowance = allowance; visits = visits })) ⌝ }
+    ensures { λ r. ⌜ ((line other : Line) → asked line other i (tally .allowance) r ≡ askAll line (now (points .entry)) other (now (now (theirs .entry))) (now (now (table .entry))) d i 1 tally) ⌝ }
 {
     let z = line::point_at(points, i);
     if !line::on_sheet(z) {
-        return ends::came(visits, OFF);
+        return ends::came(tally.visits, OFF);
     }
-    let tally = Tally { allowance, visits };
     near::ask(theirs, table, z, d, tally)
 }
 
 // The points of a line in order against the other; the first that is not near ends it.
-fn ask_all(
-    points: &[i32],
-    theirs: &&[i32],
-    table: &&[i32],
-    d: i64,
-    allowance: u32,
-    visits: u32,
-) -> Stopped
+fn ask_all(points: &[i32], theirs: &&[i32], table: &&[i32], d: i64, tally: Tally) -> Stopped
     requires { ⌜ LengthsFine (now (now theirs)) (now (now table)) × T (endsGood (now (now theirs)) 0 (segmentsOf (now (now theirs)))) × Abs≤ farthest d ⌝ }
-    ensures { λ r. ⌜ ((line other : Line) → asked line other (r .at) allowance (r .came) ≡ askAll line (now (points .entry)) other (now (now (theirs .entry))) (now (now (table .entry))) d 0 (pointsOf (now (points .entry))) (record { allowance = allowance; visits = visits })) ⌝ }
+    ensures { λ r. ⌜ ((line other : Line) → asked line other (r .at) (tally .allowance) (r .came) ≡ askAll line (now (points .entry)) other (now (now (theirs .entry))) (now (now (table .entry))) d 0 (pointsOf (now (points .entry))) tally) ⌝ }
 {
     let count = points.len() / 2;
-    let mut came = ends::came(visits, ends::ENDED);
+    let mut came = ends::came(tally.visits, ends::ENDED);
     let mut i = 0;
     while i < count {
-        let made = ends::visits_in(came);
-        came = ask_point(points, i, theirs, table, d, allowance, made);
+        let rest = ends::tally_in(tally.allowance, came);
+        came = ask_point(points, i, theirs, table, d, rest);
         if ends::end_in(came) != ends::ENDED {
             return Stopped { at: i, came };
         }
@@ -78,18 +62,17 @@ fn ask_all(
 }
 
 // Against a line that begins or ends off the sheet: the first point is asked, and the root's row that it meets is bad.
-fn bad_start(points: &[i32], allowance: u32, visits: u32) -> Stopped
+fn bad_start(points: &[i32], tally: Tally) -> Stopped
     requires { ⌜ 1 ≤ pointsOf (now points) ⌝ }
-    ensures { λ r. ⌜ ((line other : Line) (theirs table : List ℤ) (d : ℤ) → LengthsFine theirs table → endsGood theirs 0 (segmentsOf theirs) ≡ false → asked line other (r .at) allowance (r .came) ≡ askAll line (now (points .entry)) other theirs table d 0 (pointsOf (now (points .entry))) (record { allowance = allowance; visits = visits })) ⌝ }
+    ensures { λ r. ⌜ ((line other : Line) (theirs table : List ℤ) (d : ℤ) → LengthsFine theirs table → endsGood theirs 0 (segmentsOf theirs) ≡ false → asked line other (r .at) (tally .allowance) (r .came) ≡ askAll line (now (points .entry)) other theirs table d 0 (pointsOf (now (points .entry))) tally) ⌝ }
     ensures { λ r. ⌜ ENDED < endIn (r .came) ⌝ }
 {
     if !line::on_sheet(line::point_at(points, 0)) {
         return Stopped {
             at: 0,
-            came: ends::came(visits, OFF),
+            came: ends::came(tally.visits, OFF),
         };
     }
-    let tally = Tally { allowance, visits };
     Stopped {
         at: 0,
         came: ends::bad_row_due(tally, 0),
@@ -150,19 +133,23 @@ pub fn agree(
     if !near::distance_fits(distance) {
         return Agreement::Refused(line::early(7, Line::NoLine));
     }
+    let fresh = Tally {
+        allowance,
+        visits: 0,
+    };
     if !row::ends_on_sheet(points_b) {
-        let met = bad_start(points_a, allowance, 0);
+        let met = bad_start(points_a, fresh);
         return agreement(Line::LineA, Line::LineB, met, allowance);
     }
-    let a = ask_all(points_a, &points_b, &table_b, distance, allowance, 0);
+    let a = ask_all(points_a, &points_b, &table_b, distance, fresh);
     if ends::end_in(a.came) != ends::ENDED {
         return agreement(Line::LineA, Line::LineB, a, allowance);
     }
-    let visits = ends::visits_in(a.came);
+    let rest = ends::tally_in(allowance, a.came);
     if !row::ends_on_sheet(points_a) {
-        let met = bad_start(points_b, allowance, visits);
+        let met = bad_start(points_b, rest);
         return agreement(Line::LineB, Line::LineA, met, allowance);
     }
-    let b = ask_all(points_b, &points_a, &table_a, distance, allowance, visits);
+    let b = ask_all(points_b, &points_a, &table_a, distance, rest);
     agreement(Line::LineB, Line::LineA, b, allowance)
 }

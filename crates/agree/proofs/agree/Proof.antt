@@ -3,6 +3,7 @@ use mathlib.Core.Path.{_≡_, refl, sym, _∙_, ap}
 use mathlib.Core.Bool.{Bool, true}
 use mathlib.Core.List.{List}
 use mathlib.Core.Option.{Option, none}
+use Prim.Native.Nat.{ℕ}
 use native.Mathlib.Omega.{arith}
 use borrow.Author.Tests.{not-true, not-false}
 use lib.IntN.{ℤ}
@@ -205,28 +206,29 @@ returns-5 c =
     c .agreement2 .ensures
     ∙ answered k (stops LineA LineB (r .at) (start k .args .allowance) (r .came) _ (λ q. c .before .if3 .taken (e ∙ q)) ∙ first-asked w)
 
-visits-in-requires : tie.Need-visits-in-requires
-visits-in-requires c κs = search needs
+tally-in-requires : tie.Need-tally-in-requires
+tally-in-requires c κs = search needs
 
 -- ---------------- A's points are near B: what B's come to is the whole
-abbrev asked-a : tie.After-visits-in → tie.After-ask-all
+abbrev asked-a : tie.After-tally-in → tie.After-ask-all
 asked-a c = c .before .before .before
 
-abbrev begin : tie.After-visits-in → tie.Start
+abbrev begin : tie.After-tally-in → tie.Start
 begin c = start (passed (asked-a c))
 
-after-both : (c : tie.After-visits-in) {x : Asked}
-    → x ≡ second (begin c) (begin c .args .distance) (record { allowance = begin c .args .allowance; visits = c .visits-in .result })
-    → x ≡ whole (begin c)
-after-both c q =
+after-both : (c : tie.After-tally-in) (i r : ℕ)
+    → asked LineB LineA i (c .tally-in .result .allowance) r ≡ second (begin c) (begin c .args .distance) (c .tally-in .result)
+    → asked LineB LineA i (begin c .args .allowance) r ≡ whole (begin c)
+after-both c i came q =
     let w = asked-a c in
     let s = begin c in
     let a = s .args in
     let r = w .ask-all .result in
     let e = c .before .before .end-in .ensures in
     let near : endIn (r .came) ≡ 2 = omega (arith, e, c .before .if3 .left) in
-    q
-    ∙ (λ i. second s (a .distance) (record { allowance = a .allowance; visits = c .visits-in .ensures i }))
+    ap (λ (y : Tally). asked LineB LineA i (y .allowance) came) (sym (c .tally-in .ensures))
+    ∙ q
+    ∙ ap (second s (a .distance)) (c .tally-in .ensures)
     ∙ sym (ap (λ (x : Asked). onAllNear x (second s (a .distance))) (is-near LineA LineB (r .at) (a .allowance) (r .came) near))
     ∙ first-asked w
 
@@ -247,7 +249,7 @@ returns-6 c =
     let s = start k in
     let off = sym (w .before .before .ends-on-sheet2 .ensures) ∙ not-true _ (w .before .if4 .taken) in
     c .agreement3 .ensures
-    ∙ answered k (after-both o (w .bad-start2 .ensures .0 LineB LineA (pointsA s) (tableA s) (s .args .distance) (lengths k .0) off))
+    ∙ answered k (after-both o (w .bad-start2 .result .at) (w .bad-start2 .result .came) (w .bad-start2 .ensures .0 LineB LineA (pointsA s) (tableA s) (s .args .distance) (lengths k .0) off))
 
 ask-all-requires-2 : tie.Need-ask-all-requires-2
 ask-all-requires-2 c κs =
@@ -264,11 +266,11 @@ returns-7 c =
     let k = passed (asked-a o) in
     let s = start k in
     let d = toZ-ofZ {w = w64} (s .fits .distance) in
+    let b = c .before .ask-all2 in
     c .agreement4 .ensures
     ∙ answered k
-    (after-both o
-    (c .before .ask-all2 .ensures LineB LineA
-    ∙ (λ i. second s (d i) (record { allowance = s .args .allowance; visits = o .visits-in .result }))))
+    (after-both o (b .result .at) (b .result .came)
+    (b .ensures LineB LineA ∙ (λ i. second s (d i) (o .tally-in .result))))
 
 pub agree-spec : {M : Type 1} → statement M
 agree-spec =
@@ -293,7 +295,7 @@ agree-spec =
     end-in-requires
     agreement-requires-2
     returns-5
-    visits-in-requires
+    tally-in-requires
     ends-on-sheet-requires-2
     bad-start-requires-2
     agreement-requires-3

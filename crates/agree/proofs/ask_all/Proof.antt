@@ -19,13 +19,13 @@ use Rattle.agree.proofs.ask_all.Statement.{statement}
 use Rattle.agree.proofs.ask_all.Tie as tie
 
 abbrev Inv-loop : tie.InvT-loop
-Inv-loop points theirs table d allowance visits count came₀ i₀ came i =
+Inv-loop points theirs table d tally count came₀ i₀ came i =
     (i ≤ count) × (endIn came ≡ 2)
-    × ((line other : Line) → askAll line points other (theirs .now) (table .now) (toZ w64 d) i (count - i) (tallyIn allowance came)
-    ≡ askAll line points other (theirs .now) (table .now) (toZ w64 d) 0 count (record { allowance = allowance; visits = visits }))
+    × ((line other : Line) → askAll line points other (theirs .now) (table .now) (toZ w64 d) i (count - i) (tallyIn (tally .allowance) came)
+    ≡ askAll line points other (theirs .now) (table .now) (toZ w64 d) 0 count tally)
 
 abbrev μ-loop : tie.MeasureT-loop
-μ-loop points theirs table d allowance visits count came₀ i₀ came i = count - i
+μ-loop points theirs table d tally count came₀ i₀ came i = count - i
 
 -- points of the line against the other, as many from i on, with the distance as it is read back
 abbrev asks : tie.Start Inv-loop μ-loop → Line → Line → ℕ → ℕ → Tally → Asked
@@ -34,15 +34,12 @@ asks s line other = askAll line (s .args .points .now) other (s .args .theirs .n
 abbrev count : tie.Start Inv-loop μ-loop → ℕ
 count s = pointsOf (s .args .points .now)
 
-abbrev tally : tie.Start Inv-loop μ-loop → ℕ → Tally
-tally s v = record { allowance = s .args .allowance; visits = v }
-
 -- which is the distance itself
 all-asked : (s : tie.Start Inv-loop μ-loop) (line other : Line)
-    → asks s line other 0 (count s) (tally s (s .args .visits))
-    ≡ askAll line (s .args .points .now) other (s .args .theirs .now .now) (s .args .table .now .now) (s .args .d) 0 (count s) (tally s (s .args .visits))
+    → asks s line other 0 (count s) (s .args .tally)
+    ≡ askAll line (s .args .points .now) other (s .args .theirs .now .now) (s .args .table .now .now) (s .args .d) 0 (count s) (s .args .tally)
 all-asked s line other =
-    ap (λ (d : ℤ). askAll line (s .args .points .now) other (s .args .theirs .now .now) (s .args .table .now .now) d 0 (count s) (tally s (s .args .visits))) (stored (s .pre .2) tt)
+    ap (λ (d : ℤ). askAll line (s .args .points .now) other (s .args .theirs .now .now) (s .args .table .now .now) d 0 (count s) (s .args .tally)) (stored (s .pre .2) tt)
 
 abbrev start : tie.After-ask-point Inv-loop μ-loop → tie.Start Inv-loop μ-loop
 start c = c .before .before .before .before .before
@@ -52,15 +49,18 @@ at c = c .before .before .before .loop .i
 
 -- a point is asked: with those after it, it comes to what they all come to
 after-point : (c : tie.After-ask-point Inv-loop μ-loop) (line other : Line)
-    → onAllNear (asked line other (at c) (start c .args .allowance) (c .ask-point .result)) (asks (start c) line other (at c + 1) (count (start c) - (at c + 1)))
-    ≡ asks (start c) line other 0 (count (start c)) (tally (start c) (start c .args .visits))
+    → onAllNear (asked line other (at c) (start c .args .tally .allowance) (c .ask-point .result)) (asks (start c) line other (at c + 1) (count (start c) - (at c + 1)))
+    ≡ asks (start c) line other 0 (count (start c)) (start c .args .tally)
 after-point c line other =
     let s = start c in
     let i = at c in
     let a = s .args in
-    let v = c .before .visits-in .ensures in
-    ap (λ (x : Asked). onAllNear x (asks s line other (i + 1) (count s - (i + 1)))) (c .ask-point .ensures line other ∙ (λ j. asks s line other i 1 (tally s (v j))))
-    ∙ sym (next-point line (a .points .now) other (a .theirs .now .now) (a .table .now .now) (toZ w64 (ofZ w64 (a .d))) (count s) i (tallyIn (a .allowance) (c .before .before .before .loop .came)) (c .before .before .loop-test .taken))
+    let y = c .before .tally-in .ensures in
+    ap (λ (x : Asked). onAllNear x (asks s line other (i + 1) (count s - (i + 1))))
+    (ap (λ (x : Tally). asked line other i (x .allowance) (c .ask-point .result)) (sym y)
+    ∙ c .ask-point .ensures line other
+    ∙ (λ j. asks s line other i 1 (y j)))
+    ∙ sym (next-point line (a .points .now) other (a .theirs .now .now) (a .table .now .now) (toZ w64 (ofZ w64 (a .d))) (count s) i (tallyIn (a .tally .allowance) (c .before .before .before .loop .came)) (c .before .before .loop-test .taken))
     ∙ c .before .before .before .loop .inv .2 line other
 
 came-requires : tie.Need-came-requires Inv-loop μ-loop
@@ -69,16 +69,16 @@ came-requires c κs = search needs
 loop-holds : tie.Need-loop-holds Inv-loop μ-loop
 loop-holds c =
     let s = c .before in
-    let v = s .args .visits in
+    let v = s .args .tally .visits in
     let e = c .came .ensures in
     let all : count s - 0 ≡ count s = omega arith in (
       omega arith,
       ap endIn e ∙ end-in v 2 (omega arith),
-      λ line other. (λ j. asks s line other 0 (all j) (tally s ((ap visitsIn e ∙ visits-in v 2 (omega arith)) j))),
+      λ line other. (λ j. asks s line other 0 (all j) (record { allowance = s .args .tally .allowance; visits = (ap visitsIn e ∙ visits-in v 2 (omega arith)) j })),
     )
 
-visits-in-requires : tie.Need-visits-in-requires Inv-loop μ-loop
-visits-in-requires c κs = search needs
+tally-in-requires : tie.Need-tally-in-requires Inv-loop μ-loop
+tally-in-requires c κs = search needs
 
 ask-point-requires : tie.Need-ask-point-requires Inv-loop μ-loop
 ask-point-requires c κs = let p = c .before .before .before .before .pre in (omega (arith, c .before .loop-test .taken), p .0, p .1, stored-abs (p .2) tt)
@@ -90,7 +90,7 @@ returns : tie.Need-returns Inv-loop μ-loop
 returns c line other =
     let p = c .before .before in
     let e = c .before .end-in .ensures in
-    stops line other (at p) (start p .args .allowance) (p .ask-point .result) _ (λ q. c .if1 .taken (e ∙ q)) ∙ after-point p line other ∙ all-asked (start p) line other
+    stops line other (at p) (start p .args .tally .allowance) (p .ask-point .result) _ (λ q. c .if1 .taken (e ∙ q)) ∙ after-point p line other ∙ all-asked (start p) line other
 
 add-i : tie.Need-add-i Inv-loop μ-loop
 add-i c = search needs
@@ -108,7 +108,7 @@ loop-again c =
       omega (arith, p .before .before .loop-test .taken),
       near,
       λ line other.
-          sym (ap (λ (x : Asked). onAllNear x (asks s line other (i + 1) (count s - (i + 1)))) (is-near line other i (s .args .allowance) (p .ask-point .result) near))
+          sym (ap (λ (x : Asked). onAllNear x (asks s line other (i + 1) (count s - (i + 1)))) (is-near line other i (s .args .tally .allowance) (p .ask-point .result) near))
           ∙ after-point p line other,
     )
 
@@ -119,8 +119,8 @@ returns-2 c line other =
     let i = c .before .loop .i in
     let r = c .before .loop .came in
     let e : count s - i ≡ 0 = omega (arith, c .loop-test .left) in
-    is-near line other i (a .allowance) r (c .before .loop .inv .1)
-    ∙ no-point line (a .points .now) other (a .theirs .now .now) (a .table .now .now) (toZ w64 (ofZ w64 (a .d))) i (count s - i) (tallyIn (a .allowance) r) e
+    is-near line other i (a .tally .allowance) r (c .before .loop .inv .1)
+    ∙ no-point line (a .points .now) other (a .theirs .now .now) (a .table .now .now) (toZ w64 (ofZ w64 (a .d))) i (count s - i) (tallyIn (a .tally .allowance) r) e
     ∙ c .before .loop .inv .2 line other
     ∙ all-asked s line other
 
@@ -132,7 +132,7 @@ ask-all-spec =
     μ-loop
     came-requires
     loop-holds
-    visits-in-requires
+    tally-in-requires
     ask-point-requires
     end-in-requires
     returns

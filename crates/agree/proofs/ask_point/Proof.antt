@@ -6,7 +6,6 @@ use borrow.Author.Tests.{not-true, not-false}
 use Rattle.whole.specs.Order.{T-true}
 use Rattle.rules.specs.declared.Line.{Line}
 use Rattle.rules.specs.declared.Point.{Point}
-use Rattle.rules.specs.declared.Tally.{Tally}
 use Rattle.rules.specs.Sheet.{point, onSheet}
 use Rattle.rules.specs.Questions.{nearWalk}
 use Rattle.visits.proofs.OnSheets.{on-sheet}
@@ -17,9 +16,6 @@ use Rattle.agree.proofs.Points.{reads-off, heard, one-line, one-point}
 use borrow.Author.Needs.{needs}
 use Rattle.agree.proofs.ask_point.Statement.{statement}
 use Rattle.agree.proofs.ask_point.Tie as tie
-
-abbrev tally : tie.Start → Tally
-tally s = record { allowance = s .args .allowance; visits = s .args .visits }
 
 -- the point is on the sheet as it stands in the line
 said : (c : tie.After-on-sheet) → c .on-sheet .result ≡ onSheet (point (c .before .before .args .points .now) (c .before .before .args .i))
@@ -38,9 +34,9 @@ returns : tie.Need-returns
 returns c line other =
     let s = c .before .before .before .before in
     let a = s .args in
-    ap (asked line other (a .i) (a .allowance)) (c .came .ensures)
-    ∙ reads-off line other (a .i) (a .allowance) (a .visits)
-    ∙ one-point line (a .points .now) other (a .theirs .now .now) (a .table .now .now) (a .d) (a .i) (tally s) (sym (said (c .before .before)) ∙ not-true _ (c .before .if1 .taken))
+    ap (asked line other (a .i) (a .tally .allowance)) (c .came .ensures)
+    ∙ reads-off line other (a .i) (a .tally .allowance) (a .tally .visits)
+    ∙ one-point line (a .points .now) other (a .theirs .now .now) (a .table .now .now) (a .d) (a .i) (a .tally) (sym (said (c .before .before)) ∙ not-true _ (c .before .if1 .taken))
 
 ask-requires : tie.Need-ask-requires
 ask-requires c κs =
@@ -52,20 +48,20 @@ start c = c .before .before .before .before
 
 -- what the walk of the point comes to, whatever a second line is called
 walked : (c : tie.After-ask) (l m : Line)
-    → cameTo tt tt l m (start c .args .allowance) (c .ask .result)
-    ≡ nearWalk l (start c .args .theirs .now .now) (start c .args .table .now .now) (point (start c .args .points .now) (start c .args .i)) (start c .args .d) (tally (start c))
+    → cameTo tt tt l m (start c .args .tally .allowance) (c .ask .result)
+    ≡ nearWalk l (start c .args .theirs .now .now) (start c .args .table .now .now) (point (start c .args .points .now) (start c .args .i)) (start c .args .d) (start c .args .tally)
 walked c l m =
     let s = start c in
     let d = stored (s .pre .3) tt in
     let z = c .before .before .before .point-at .ensures in
-    c .ask .ensures l m ∙ (λ j. nearWalk l (s .args .theirs .now .now) (s .args .table .now .now) (z j) (d j) (tally s))
+    c .ask .ensures l m ∙ (λ j. nearWalk l (s .args .theirs .now .now) (s .args .table .now .now) (z j) (d j) (s .args .tally))
 
 returns-2 : tie.Need-returns-2
 returns-2 c line other =
     let a = start c .args in
-    let small : endIn (c .ask .result) < badSecond = one-line other (a .allowance) (c .ask .result) (walked c other) in
-    heard line other (a .i) (a .allowance) (c .ask .result) (λ q. omega arith) (walked c other other)
-    ∙ one-point line (a .points .now) other (a .theirs .now .now) (a .table .now .now) (a .d) (a .i) (tally (start c)) (sym (said (c .before .before)) ∙ not-false _ (c .before .if1 .left))
+    let small : endIn (c .ask .result) < badSecond = one-line other (a .tally .allowance) (c .ask .result) (walked c other) in
+    heard line other (a .i) (a .tally .allowance) (c .ask .result) (λ q. omega arith) (walked c other other)
+    ∙ one-point line (a .points .now) other (a .theirs .now .now) (a .table .now .now) (a .d) (a .i) (a .tally) (sym (said (c .before .before)) ∙ not-false _ (c .before .if1 .left))
 
 pub ask-point-spec : {M : Type 1} → statement M
 ask-point-spec =

@@ -3,7 +3,6 @@ use mathlib.Core.Path.{_≡_, sym, _∙_, ap}
 use native.Mathlib.Omega.{arith}
 use borrow.Author.Tests.{not-true, not-false}
 use Rattle.rules.specs.declared.Point.{Point}
-use Rattle.rules.specs.declared.Tally.{Tally}
 use Rattle.rules.specs.Sheet.{point, pointsOf, onSheet}
 use Rattle.rules.specs.Walk.{next}
 use Rattle.ends.specs.Came.{came, badRow, due}
@@ -14,9 +13,6 @@ use Rattle.agree.proofs.Points.{reads-off, root-end, heard, one-point, 
 use borrow.Author.Needs.{needs}
 use Rattle.agree.proofs.bad_start.Statement.{statement}
 use Rattle.agree.proofs.bad_start.Tie as tie
-
-abbrev tally : tie.Start → Tally
-tally s = record { allowance = s .args .allowance; visits = s .args .visits }
 
 -- the first point is on the sheet as it stands in the line
 said : (c : tie.After-on-sheet) → c .on-sheet .result ≡ onSheet (point (c .before .before .args .points .now) 0)
@@ -34,13 +30,13 @@ came-requires c κs = search needs
 returns : tie.Need-returns
 returns c =
     let s = c .before .before .before .before in
-    let a = s .args in
-    let ps = a .points .now in
-    let e = end-in (a .visits) OFF (omega arith) in (
-      λ line other theirs table d h off. ap (asked line other 0 (a .allowance)) (c .came .ensures)
-          ∙ first-stops line ps other theirs table d (a .allowance) (pointsOf ps) (came (a .visits) OFF) (tally s) (s .pre) (λ q. omega (arith, e, q))
-          (reads-off line other 0 (a .allowance) (a .visits)
-          ∙ one-point line ps other theirs table d 0 (tally s) (sym (said (c .before .before)) ∙ not-true _ (c .before .if1 .taken))),
+    let y = s .args .tally in
+    let ps = s .args .points .now in
+    let e = end-in (y .visits) OFF (omega arith) in (
+      λ line other theirs table d h off. ap (asked line other 0 (y .allowance)) (c .came .ensures)
+          ∙ first-stops line ps other theirs table d (y .allowance) (pointsOf ps) (came (y .visits) OFF) y (s .pre) (λ q. omega (arith, e, q))
+          (reads-off line other 0 (y .allowance) (y .visits)
+          ∙ one-point line ps other theirs table d 0 y (sym (said (c .before .before)) ∙ not-true _ (c .before .if1 .taken))),
       omega (arith, e, c .came .ensures),
     )
 
@@ -50,14 +46,14 @@ bad-row-due-requires c κs = search needs
 returns-2 : tie.Need-returns-2
 returns-2 c =
     let s = c .before .before .before .before in
-    let a = s .args in
-    let ps = a .points .now in
-    let r = due (next (tally s)) badRow in
-    let e = root-end (next (tally s)) in (
-      λ line other theirs table d h off. ap (asked line other 0 (a .allowance)) (c .bad-row-due .ensures)
-          ∙ first-stops line ps other theirs table d (a .allowance) (pointsOf ps) r (tally s) (s .pre) (λ q. omega (arith, e .0, q))
-          (heard line other 0 (a .allowance) r (λ q. omega (arith, e .1, q)) (root-bad other other (point ps 0) d (tally s) h off)
-          ∙ one-point line ps other theirs table d 0 (tally s) (sym (said (c .before .before)) ∙ not-false _ (c .before .if1 .left))),
+    let y = s .args .tally in
+    let ps = s .args .points .now in
+    let r = due (next y) badRow in
+    let e = root-end (next y) in (
+      λ line other theirs table d h off. ap (asked line other 0 (y .allowance)) (c .bad-row-due .ensures)
+          ∙ first-stops line ps other theirs table d (y .allowance) (pointsOf ps) r y (s .pre) (λ q. omega (arith, e .0, q))
+          (heard line other 0 (y .allowance) r (λ q. omega (arith, e .1, q)) (root-bad other other (point ps 0) d y h off)
+          ∙ one-point line ps other theirs table d 0 y (sym (said (c .before .before)) ∙ not-false _ (c .before .if1 .left))),
       omega (arith, e .0, c .bad-row-due .ensures),
     )
 
