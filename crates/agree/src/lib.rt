@@ -6,20 +6,14 @@ use rules::Line;
 use rules::Refusal;
 use rules::Tally;
 ghost use mathlib.Core.Path.{_≡_};
-ghost use mathlib.Core.Bool.{false};
-ghost use mathlib.Core.List.{List};
 ghost use Prim.Native.Nat.{_+_, _*_, _<_, _≤_};
-ghost use lib.Dec.{T};
-ghost use lib.IntN.{ℤ};
 ghost use lib.ListN.{length};
-ghost use Rattle.whole.specs.Range.{Abs≤};
-ghost use Rattle.rules.specs.Sheet.{pointsOf, segmentsOf, farthest};
+ghost use Rattle.rules.specs.Sheet.{pointsOf};
 ghost use Rattle.rules.specs.Reply.{agreementReply};
-ghost use Rattle.rules.specs.Rows.{endsGood};
-ghost use Rattle.rules.specs.Questions.{askAll, agreed, agreeReply};
-ghost use Rattle.line.specs.Fine.{LengthsFine};
+ghost use Rattle.rules.specs.Questions.{agreed, agreeReply};
 ghost use Rattle.ends.specs.Came.{endIn, ENDED};
-ghost use Rattle.agree.specs.Said.{asked};
+ghost use Rattle.near_walk.specs.Said.{AsksLine};
+ghost use Rattle.agree.specs.Said.{asked, Asks, AsksAll, AsksAllOff};
 
 // How the asking of a point off the sheet ends: above the number of every bad row.
 const OFF: u32 = 131072;
@@ -32,20 +26,20 @@ struct Stopped {
 
 // Point i of a line against the other: refusal 8, then the walk.
 fn ask_point(points: &[i32], i: usize, theirs: &&[i32], table: &&[i32], d: i64, tally: Tally) -> u64
-    requires { ⌜ (2 * i + 1 < length (now points)) × LengthsFine (now (now theirs)) (now (now table)) × T (endsGood (now (now theirs)) 0 (segmentsOf (now (now theirs)))) × Abs≤ farthest d ⌝ }
-    ensures { λ r. ⌜ ((line other : Line) → asked line other i (tally .allowance) r ≡ askAll line (now (points .entry)) other (now (now (theirs .entry))) (now (now (table .entry))) d i 1 tally) ⌝ }
+    requires { ⌜ (2 * i + 1 < length (now points)) × AsksLine (now (now theirs)) (now (now table)) d ⌝ }
+    ensures { λ r. ⌜ Asks (now (points .entry)) (now (now (theirs .entry))) (now (now (table .entry))) d i 1 tally i r ⌝ }
 {
     let z = line::point_at(points, i);
     if !line::on_sheet(z) {
         return ends::came(tally.visits, OFF);
     }
-    near::ask(theirs, table, z, d, tally)
+    near_walk::ask(theirs, table, z, d, tally)
 }
 
 // The points of a line in order against the other; the first that is not near ends it.
 fn ask_all(points: &[i32], theirs: &&[i32], table: &&[i32], d: i64, tally: Tally) -> Stopped
-    requires { ⌜ LengthsFine (now (now theirs)) (now (now table)) × T (endsGood (now (now theirs)) 0 (segmentsOf (now (now theirs)))) × Abs≤ farthest d ⌝ }
-    ensures { λ r. ⌜ ((line other : Line) → asked line other (r .at) (tally .allowance) (r .came) ≡ askAll line (now (points .entry)) other (now (now (theirs .entry))) (now (now (table .entry))) d 0 (pointsOf (now (points .entry))) tally) ⌝ }
+    requires { ⌜ AsksLine (now (now theirs)) (now (now table)) d ⌝ }
+    ensures { λ r. ⌜ AsksAll (now (points .entry)) (now (now (theirs .entry))) (now (now (table .entry))) d tally r ⌝ }
 {
     let count = points.len() / 2;
     let mut came = ends::came(tally.visits, ends::ENDED);
@@ -64,7 +58,7 @@ fn ask_all(points: &[i32], theirs: &&[i32], table: &&[i32], d: i64, tally: Tally
 // Against a line that begins or ends off the sheet: the first point is asked, and the root's row that it meets is bad.
 fn bad_start(points: &[i32], tally: Tally) -> Stopped
     requires { ⌜ 1 ≤ pointsOf (now points) ⌝ }
-    ensures { λ r. ⌜ ((line other : Line) (theirs table : List ℤ) (d : ℤ) → LengthsFine theirs table → endsGood theirs 0 (segmentsOf theirs) ≡ false → asked line other (r .at) (tally .allowance) (r .came) ≡ askAll line (now (points .entry)) other theirs table d 0 (pointsOf (now (points .entry))) tally) ⌝ }
+    ensures { λ r. ⌜ AsksAllOff (now (points .entry)) tally r ⌝ }
     ensures { λ r. ⌜ ENDED < endIn (r .came) ⌝ }
 {
     if !line::on_sheet(line::point_at(points, 0)) {
@@ -130,7 +124,7 @@ pub fn agree(
     if let Checked::Refused(refusal) = checked_b {
         return Agreement::Refused(refusal);
     }
-    if !near::distance_fits(distance) {
+    if !reach::distance_fits(distance) {
         return Agreement::Refused(line::early(7, Line::NoLine));
     }
     let fresh = Tally {

@@ -1,5 +1,2 @@
--- Laws that the proofs of `near` share.
-pub mod Sizes
-pub mod Segment
-pub mod Visits
+-- Laws of NEAR's reply.
 pub mod Replies

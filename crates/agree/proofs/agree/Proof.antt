@@ -28,7 +28,7 @@ use Rattle.line.specs.Said.{checkedRefusal}
 use Rattle.line.proofs.Lengths.{lengths-fine}
 use Rattle.line.proofs.Stored.{stored-abs}
 use Rattle.ends.specs.Came.{endIn}
-use Rattle.near.proofs.Sizes.{distance-abs}
+use Rattle.reach.proofs.Sizes.{distance-abs}
 use Rattle.agree.specs.Said.{asked}
 use Rattle.agree.proofs.Points.{is-near, stops}
 use Rattle.agree.proofs.Replies.{walksReply, distanceRefusal, agree-checked}
@@ -170,7 +170,7 @@ returns-4 c =
     c .agreement .ensures
     ∙ answered k
     (stops LineA LineB (r .at) (a .allowance) (r .came) _ (λ q. omega (arith, w .bad-start .ensures .1, q))
-    ∙ after-first s (w .bad-start .ensures .0 LineA LineB (pointsB s) (tableB s) (a .distance) (lengths k .1) off))
+    ∙ after-first s (w .bad-start .ensures .0 (pointsB s) (tableB s) (a .distance) (lengths k .1) off LineA LineB))
 
 -- ---------------- A's points
 ask-all-requires : tie.Need-ask-all-requires
@@ -249,7 +249,7 @@ returns-6 c =
     let s = start k in
     let off = sym (w .before .before .ends-on-sheet2 .ensures) ∙ not-true _ (w .before .if4 .taken) in
     c .agreement3 .ensures
-    ∙ answered k (after-both o (w .bad-start2 .result .at) (w .bad-start2 .result .came) (w .bad-start2 .ensures .0 LineB LineA (pointsA s) (tableA s) (s .args .distance) (lengths k .0) off))
+    ∙ answered k (after-both o (w .bad-start2 .result .at) (w .bad-start2 .result .came) (w .bad-start2 .ensures .0 (pointsA s) (tableA s) (s .args .distance) (lengths k .0) off LineB LineA))
 
 ask-all-requires-2 : tie.Need-ask-all-requires-2
 ask-all-requires-2 c κs =

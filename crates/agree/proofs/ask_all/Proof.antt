@@ -81,7 +81,9 @@ tally-in-requires : tie.Need-tally-in-requires Inv-loop μ-loop
 tally-in-requires c κs = search needs
 
 ask-point-requires : tie.Need-ask-point-requires Inv-loop μ-loop
-ask-point-requires c κs = let p = c .before .before .before .before .pre in (omega (arith, c .before .loop-test .taken), p .0, p .1, stored-abs (p .2) tt)
+ask-point-requires c κs =
+    let p = c .before .before .before .before .pre in
+    (omega (arith, c .before .loop-test .taken), (p .0, p .1, stored-abs (p .2) tt))
 
 end-in-requires : tie.Need-end-in-requires Inv-loop μ-loop
 end-in-requires c κs = search needs

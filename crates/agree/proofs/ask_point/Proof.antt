@@ -40,8 +40,9 @@ returns c line other =
 
 ask-requires : tie.Need-ask-requires
 ask-requires c κs =
-    let p = c .before .before .before .pre in
-    (p .1, p .2, on-sheet _ (T-true (sym (c .before .on-sheet .ensures) ∙ not-false _ (c .if1 .left))), stored-abs (p .3) tt)
+    let p = c .before .before .before .pre .1 in
+    let on = on-sheet _ (T-true (sym (c .before .on-sheet .ensures) ∙ not-false _ (c .if1 .left))) in
+    ((p .0, p .1, stored-abs (p .2) tt), on)
 
 abbrev start : tie.After-ask → tie.Start
 start c = c .before .before .before .before
@@ -52,7 +53,7 @@ walked : (c : tie.After-ask) (l m : Line)
     ≡ nearWalk l (start c .args .theirs .now .now) (start c .args .table .now .now) (point (start c .args .points .now) (start c .args .i)) (start c .args .d) (start c .args .tally)
 walked c l m =
     let s = start c in
-    let d = stored (s .pre .3) tt in
+    let d = stored (s .pre .1 .2) tt in
     let z = c .before .before .before .point-at .ensures in
     c .ask .ensures l m ∙ (λ j. nearWalk l (s .args .theirs .now .now) (s .args .table .now .now) (z j) (d j) (s .args .tally))
 

@@ -7,7 +7,7 @@ use Rattle.rules.specs.Sheet.{point, pointsOf, onSheet}
 use Rattle.rules.specs.Walk.{next}
 use Rattle.ends.specs.Came.{came, badRow, due}
 use Rattle.ends.proofs.Ends.{end-in}
-use Rattle.near.proofs.Visits.{root-bad}
+use Rattle.near_walk.proofs.Visits.{root-bad}
 use Rattle.agree.specs.Said.{OFF, asked}
 use Rattle.agree.proofs.Points.{reads-off, root-end, heard, one-point, first-stops}
 use borrow.Author.Needs.{needs}
@@ -33,7 +33,7 @@ returns c =
     let y = s .args .tally in
     let ps = s .args .points .now in
     let e = end-in (y .visits) OFF (omega arith) in (
-      λ line other theirs table d h off. ap (asked line other 0 (y .allowance)) (c .came .ensures)
+      λ theirs table d h off line other. ap (asked line other 0 (y .allowance)) (c .came .ensures)
           ∙ first-stops line ps other theirs table d (y .allowance) (pointsOf ps) (came (y .visits) OFF) y (s .pre) (λ q. omega (arith, e, q))
           (reads-off line other 0 (y .allowance) (y .visits)
           ∙ one-point line ps other theirs table d 0 y (sym (said (c .before .before)) ∙ not-true _ (c .before .if1 .taken))),
@@ -50,7 +50,7 @@ returns-2 c =
     let ps = s .args .points .now in
     let r = due (next y) badRow in
     let e = root-end (next y) in (
-      λ line other theirs table d h off. ap (asked line other 0 (y .allowance)) (c .bad-row-due .ensures)
+      λ theirs table d h off line other. ap (asked line other 0 (y .allowance)) (c .bad-row-due .ensures)
           ∙ first-stops line ps other theirs table d (y .allowance) (pointsOf ps) r y (s .pre) (λ q. omega (arith, e .0, q))
           (heard line other 0 (y .allowance) r (λ q. omega (arith, e .1, q)) (root-bad other other (point ps 0) d y h off)
           ∙ one-point line ps other theirs table d 0 y (sym (said (c .before .before)) ∙ not-false _ (c .before .if1 .left))),

@@ -21,7 +21,7 @@ use Rattle.line.specs.Fine.{LengthsFine}
 use Rattle.line.specs.Said.{checkedRefusal}
 use Rattle.visits.proofs.OnSheets.{on-sheet}
 use Rattle.line.proofs.Stored.{stored-abs}
-use Rattle.near.proofs.Sizes.{distance-abs}
+use Rattle.reach.proofs.Sizes.{distance-abs}
 use Rattle.line.proofs.Lengths.{lengths-fine}
 use Rattle.near.proofs.Replies.{near-checked}
 use borrow.Author.Needs.{needs}

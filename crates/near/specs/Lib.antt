@@ -1,3 +1,0 @@
--- What the contracts of `near` are said with.
-pub mod Bounds
-pub mod Said

@@ -1,0 +1,40 @@
+-- `ask` walks from the root, with as many levels as the line has segments, and hands on the distance squared.
+use mathlib.Core.Path.{_∙_}
+use native.Mathlib.Omega.{arith}
+use lib.IntN.{_*ℤ_}
+use mir.Syntax.{w64}
+use Rattle.whole.specs.Range.{fits-of}
+use Rattle.rules.specs.Sheet.{segmentsOf}
+use Rattle.rules.specs.Walk.{walk}
+use Rattle.rules.specs.Questions.{root, nearVisit}
+use Rattle.line.proofs.Stored.{stored, stored-abs, point-stored, stored-on}
+use Rattle.row.proofs.Places.{root-stands, root-ends}
+use Rattle.reach.proofs.Sizes.{square-abs}
+use borrow.Author.Needs.{needs}
+use Rattle.near_walk.proofs.ask.Statement.{statement}
+use Rattle.near_walk.proofs.ask.Tie as tie
+
+sub-last : tie.Need-sub-last
+sub-last c = search needs
+
+mul-walk : tie.Need-mul-walk
+mul-walk c = fits-of w64 (square-abs (stored-abs (c .pre .0 .2) tt)) tt
+
+walk-requires : tie.Need-walk-requires
+walk-requires c κs =
+    let p = c .before .before .pre in
+    let d = square-abs (stored-abs (p .0 .2) tt) in
+    (root-stands (p .0 .0), root-ends (p .0 .1), stored-on (p .1), stored-abs d tt)
+
+returns : tie.Need-returns
+returns c l m =
+    let s = c .before .before .before in
+    let a = s .args in
+    let f = segmentsOf (a .points .now .now) in
+    let z = point-stored (s .pre .1) in
+    let d = stored (s .pre .0 .2) tt in
+    c .walk .ensures l m f (a .d) (stored (square-abs (stored-abs (s .pre .0 .2) tt)) tt ∙ (λ i. d i *ℤ d i)) (omega arith)
+    ∙ (λ j. walk (nearVisit l (a .points .now .now) (a .table .now .now) (z j) (a .d)) f (root (a .points .now .now)) tt (a .tally))
+
+pub ask-spec : {M : Type 1} → statement M
+ask-spec = tie.close (tie.spec sub-last mul-walk walk-requires returns)

@@ -1,0 +1,40 @@
+-- `ask_any` walks, unless the line begins or ends off the sheet: then its root is refused.
+use mathlib.Core.Path.{sym, _∙_, ap}
+use borrow.Author.Tests.{not-true, not-false}
+use lib.IntN.{ℤ}
+use Rattle.whole.specs.Order.{T-true}
+use Rattle.rules.specs.Questions.{nearWalk}
+use Rattle.line.proofs.Stored.{stored, stored-abs}
+use Rattle.ends.specs.Came.{cameTo}
+use Rattle.near_walk.proofs.Visits.{root-bad}
+use borrow.Author.Needs.{needs}
+use Rattle.near_walk.proofs.ask_any.Statement.{statement}
+use Rattle.near_walk.proofs.ask_any.Tie as tie
+
+ends-on-sheet-requires : tie.Need-ends-on-sheet-requires
+ends-on-sheet-requires c κs = search needs
+
+bad-row-due-requires : tie.Need-bad-row-due-requires
+bad-row-due-requires c κs = search needs
+
+returns : tie.Need-returns
+returns c l m =
+    let s = c .before .before .before .before in
+    let a = s .args in
+    let off = sym (c .before .before .ends-on-sheet .ensures) ∙ not-true _ (c .before .if1 .taken) in
+    ap (cameTo tt tt l m (a .tally .allowance)) (c .bad-row-due .ensures) ∙ root-bad l m (a .z) (a .d) (a .tally) (s .pre .0) off
+
+ask-requires : tie.Need-ask-requires
+ask-requires c κs =
+    let p = c .before .before .before .pre in
+    let on = T-true (sym (c .before .ends-on-sheet .ensures) ∙ not-false _ (c .if1 .left)) in
+    ((p .0, on, stored-abs (p .2) tt), p .1)
+
+returns-2 : tie.Need-returns-2
+returns-2 c l m =
+    let s = c .before .before .before .before in
+    let a = s .args in
+    c .ask .ensures l m ∙ ap (λ (d : ℤ). nearWalk l (a .points .now .now) (a .table .now .now) (a .z) d (a .tally)) (stored (s .pre .2) tt)
+
+pub ask-any-spec : {M : Type 1} → statement M
+ask-any-spec = tie.close (tie.spec ends-on-sheet-requires bad-row-due-requires returns ask-requires returns-2)

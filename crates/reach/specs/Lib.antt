@@ -1,0 +1,2 @@
+-- What the contracts of `reach` are said with.
+pub mod Bounds
