@@ -27,8 +27,6 @@ pub fn near(points: &[i32], table: &[i32], z: Point, distance: i64, allowance: u
         allowance,
         visits: 0,
     };
-    ends::answer(
-        near_walk::ask_any(&points, &table, z, distance, fresh),
-        allowance,
-    )
+    let came = near_walk::ask_any(&points, &table, z, distance, fresh);
+    ends::answer(came, allowance)
 }

@@ -243,7 +243,7 @@ module _ (t : ℕ) where
   low-small c = let h = inside c in row-small (left-stands (begin c .pre .1 .0) (h .0) (h .1))
 
   bad-row-due-requires : walk-lts.Need-bad-row-due-requires (claims t) (walk-at t) walk.Post
-  bad-row-due-requires c κs = low-small (c .before .before .before .before)
+  bad-row-due-requires c κs = let low = low-small (c .before .before .before .before) in omega arith
 
   returns-2 : walk-lts.Need-returns-2 (claims t) (walk-at t) walk.Post
   returns-2 c l m f D q h =

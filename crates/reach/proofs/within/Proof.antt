@@ -50,7 +50,9 @@ size2-requires : tie.Need-size2-requires
 size2-requires c κs = step-is-small (c .before .before)
 
 apart-requires-2 : tie.Need-apart-requires-2
-apart-requires-2 c κs = let p = c .before .before .before .before .before .pre in (p .2, p .0, stored-abs (p .3) tt)
+apart-requires-2 c κs =
+    let p = c .before .before .before .before .before .pre in
+    (search needs, search needs, stored-abs (p .3) tt)
 
 returns-2 : tie.Need-returns-2
 returns-2 c D e =
