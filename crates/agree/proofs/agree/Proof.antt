@@ -17,7 +17,7 @@ use Rattle.rules.specs.declared.Line.the-variants.{LineA, LineB}
 use Rattle.rules.specs.declared.Refusal.{Refusal}
 use Rattle.rules.specs.declared.Tally.{Tally}
 use Rattle.rules.specs.Sheet.{pointsOf, farthest, distanceFits}
-use Rattle.rules.specs.Reply.{firstRefusal, orRefused, agreementReply}
+use Rattle.rules.specs.Reply.{Reply, firstRefusal, orRefused, agreementReply}
 use Rattle.rules.specs.Rows.{lengthChecks}
 use Rattle.rules.specs.Walk.{fresh}
 use Rattle.rules.specs.Questions.{Asked, askAll, onAllNear, agreed, agreeWalk, agreeReply}
@@ -56,25 +56,43 @@ refusalA s = firstRefusal (lengthChecks LineA (pointsA s) (tableA s))
 abbrev refusalB : tie.Start → Option Refusal
 refusalB s = firstRefusal (lengthChecks LineB (pointsB s) (tableB s))
 
-fine-a : (c : tie.After-enum-told) → refusalA (c .before .before .before) ≡ none
-fine-a c = let e : c .before .before .check-lengths .result ≡ Fine = cc in sym (c .before .before .check-lengths .ensures) ∙ ap checkedRefusal e
+-- where the check of A began, and that of B
+abbrev startA : tie.After-enum-told → tie.Start
+startA c = c .before .before .before
 
-fine-b : (c : tie.After-enum-told2) → refusalB (c .before .before .before .before .before .before) ≡ none
-fine-b c = let e : c .before .before .check-lengths2 .result ≡ Fine = cc in sym (c .before .before .check-lengths2 .ensures) ∙ ap checkedRefusal e
+abbrev startB : tie.After-enum-told2 → tie.Start
+startB c = startA (c .before .before .before)
 
-lengths-a : (c : tie.After-enum-told) → LengthsFine (pointsA (c .before .before .before)) (tableA (c .before .before .before))
+fine-a : (c : tie.After-enum-told) → refusalA (startA c) ≡ none
+fine-a c =
+    let e : c .before .before .check-lengths .result ≡ Fine = cc in
+    sym (c .before .before .check-lengths .ensures) ∙ ap checkedRefusal e
+
+fine-b : (c : tie.After-enum-told2) → refusalB (startB c) ≡ none
+fine-b c =
+    let e : c .before .before .check-lengths2 .result ≡ Fine = cc in
+    sym (c .before .before .check-lengths2 .ensures) ∙ ap checkedRefusal e
+
+lengths-a : (c : tie.After-enum-told) → LengthsFine (pointsA (startA c)) (tableA (startA c))
 lengths-a c = lengths-fine LineA _ _ (fine-a c)
 
-lengths-b : (c : tie.After-enum-told2) → LengthsFine (pointsB (c .before .before .before .before .before .before)) (tableB (c .before .before .before .before .before .before))
+lengths-b : (c : tie.After-enum-told2) → LengthsFine (pointsB (startB c)) (tableB (startB c))
 lengths-b c = lengths-fine LineB _ _ (fine-b c)
 
-distance-said : (c : tie.After-distance-fits) → c .distance-fits .result ≡ distanceFits (c .before .before .before .before .before .before .before .args .distance)
-distance-said c = c .distance-fits .ensures ∙ ap distanceFits (toZ-ofZ {w = w64} (c .before .before .before .before .before .before .before .fits .distance))
+distance-said : (c : tie.After-distance-fits)
+    → c .distance-fits .result ≡ distanceFits (startB (c .before) .args .distance)
+distance-said c =
+    c .distance-fits .ensures ∙ ap distanceFits (toZ-ofZ {w = w64} (startB (c .before) .fits .distance))
 
 -- they decide the reply
-decided : (s : tie.Start) {o p : Option Refusal} {d : Bool} → refusalA s ≡ o → refusalB s ≡ p → distanceFits (s .args .distance) ≡ d
-    → orRefused (orElse o (orElse p (distanceRefusal (s .args .distance) d))) (walksReply (pointsA s) (tableA s) (pointsB s) (tableB s) (s .args .distance) (s .args .allowance))
-    ≡ agreeReply (pointsA s) (tableA s) (pointsB s) (tableB s) (s .args .distance) (s .args .allowance)
+abbrev reply : tie.Start → Reply
+reply s = agreeReply (pointsA s) (tableA s) (pointsB s) (tableB s) (s .args .distance) (s .args .allowance)
+
+decided : (s : tie.Start) {o p : Option Refusal} {d : Bool}
+    → refusalA s ≡ o → refusalB s ≡ p → distanceFits (s .args .distance) ≡ d
+    → orRefused (orElse o (orElse p (distanceRefusal (s .args .distance) d)))
+    (walksReply (pointsA s) (tableA s) (pointsB s) (tableB s) (s .args .distance) (s .args .allowance))
+    ≡ reply s
 decided s = agree-checked (pointsA s) (tableA s) (pointsB s) (tableB s) (s .args .distance) (s .args .allowance)
 
 check-lengths-requires : tie.Need-check-lengths-requires
@@ -84,7 +102,9 @@ enum-known-checked-a : tie.Need-enum-known-checked-a
 enum-known-checked-a c = search needs
 
 returns : tie.Need-returns
-returns c = decided (c .before .before .before .before) (sym (c .before .before .before .check-lengths .ensures) ∙ ap checkedRefusal (c .before .checked-a .given .1)) refl refl
+returns c =
+    let said = c .before .before .before .check-lengths .ensures in
+    decided (c .before .before .before .before) (sym said ∙ ap checkedRefusal (c .before .checked-a .given .1)) refl refl
 
 enum-told : tie.Need-enum-told
 enum-told c = search needs
@@ -97,7 +117,9 @@ enum-known-checked-b c = search needs
 
 returns-2 : tie.Need-returns-2
 returns-2 c =
-    decided (c .before .before .before .before .before .before .before) (fine-a (c .before .before .before .before)) (sym (c .before .before .before .check-lengths2 .ensures) ∙ ap checkedRefusal (c .before .checked-b .given .1)) refl
+    let k = c .before .before .before .before in
+    let said = c .before .before .before .check-lengths2 .ensures in
+    decided (startA k) (fine-a k) (sym said ∙ ap checkedRefusal (c .before .checked-b .given .1)) refl
 
 enum-told-2 : tie.Need-enum-told-2
 enum-told-2 c = search needs
@@ -111,19 +133,22 @@ early-requires c κs = search needs
 returns-3 : tie.Need-returns-3
 returns-3 c =
     let t = c .before in
+    let k = t .before .before in
+    let e = sym (distance-said (t .before)) ∙ not-true _ (t .if1 .taken) in
     ap (λ (r : Refusal). agreementReply (Refused r)) (c .early .ensures)
-    ∙ decided (t .before .before .before .before .before .before .before .before) (fine-a (t .before .before .before .before .before)) (fine-b (t .before .before)) (sym (distance-said (t .before)) ∙ not-true _ (t .if1 .taken))
+    ∙ decided (startB k) (fine-a (k .before .before .before)) (fine-b k) e
 
 -- the distance passed
-fits : (c : tie.Else1) → distanceFits (c .before .before .before .before .before .before .before .before .args .distance) ≡ true
+fits : (c : tie.Else1) → distanceFits (startB (c .before .before) .args .distance) ≡ true
 fits c = sym (distance-said (c .before)) ∙ not-false _ (c .if1 .left)
 
 -- ---------------- the walks
 abbrev start : tie.Else1 → tie.Start
-start c = c .before .before .before .before .before .before .before .before
+start c = startB (c .before .before)
 
 -- what is known of both lines and of the distance
-lengths : (c : tie.Else1) → LengthsFine (pointsA (start c)) (tableA (start c)) × LengthsFine (pointsB (start c)) (tableB (start c))
+lengths : (c : tie.Else1)
+    → LengthsFine (pointsA (start c)) (tableA (start c)) × LengthsFine (pointsB (start c)) (tableB (start c))
 lengths c = (lengths-a (c .before .before .before .before .before), lengths-b (c .before .before))
 
 distance-small : (c : tie.Else1) → Abs≤ farthest (toZ w64 (ofZ w64 (start c .args .distance)))
@@ -132,7 +157,10 @@ distance-small c = stored-abs (distance-abs (start c .args .distance) (T-true (f
 ends-on-sheet-requires : tie.Need-ends-on-sheet-requires
 ends-on-sheet-requires c κs = lengths c .1 .some-points
 
--- B's points against A, at a distance
+-- A's points against B, and B's against A, at a distance
+abbrev first : tie.Start → ℤ → Asked
+first s d = askAll LineA (pointsA s) LineB (pointsB s) (tableB s) d 0 (pointsOf (pointsA s)) (fresh (s .args .allowance))
+
 abbrev second : tie.Start → ℤ → Tally → Asked
 second s d v = askAll LineB (pointsB s) LineA (pointsA s) (tableA s) d 0 (pointsOf (pointsB s)) v
 
@@ -141,16 +169,16 @@ abbrev whole : tie.Start → Asked
 whole s = agreeWalk (pointsA s) (tableA s) (pointsB s) (tableB s) (s .args .distance) (fresh (s .args .allowance))
 
 -- A's points are asked: with B's after them it is the whole
-after-first : (s : tie.Start) {x : Asked} → x ≡ askAll LineA (pointsA s) LineB (pointsB s) (tableB s) (s .args .distance) 0 (pointsOf (pointsA s)) (fresh (s .args .allowance))
+after-first : (s : tie.Start) {x : Asked} → x ≡ first s (s .args .distance)
     → onAllNear x (second s (s .args .distance)) ≡ whole s
 unfolding agreeWalk
 after-first s e = ap (λ (x : Asked). onAllNear x (second s (s .args .distance))) e
 
 -- what the walks come to is the reply
-answered : (c : tie.Else1) {x : Asked} → x ≡ whole (start c)
-    → agreed (start c .args .allowance) x ≡ agreeReply (pointsA (start c)) (tableA (start c)) (pointsB (start c)) (tableB (start c)) (start c .args .distance) (start c .args .allowance)
+answered : (c : tie.Else1) {x : Asked} → x ≡ whole (start c) → agreed (start c .args .allowance) x ≡ reply (start c)
 answered c e =
-    ap (agreed (start c .args .allowance)) e ∙ decided (start c) (fine-a (c .before .before .before .before .before)) (fine-b (c .before .before)) (fits c)
+    let k = c .before .before in
+    ap (agreed (start c .args .allowance)) e ∙ decided (start c) (fine-a (k .before .before .before)) (fine-b k) (fits c)
 
 -- ---------------- B begins or ends off the sheet
 bad-start-requires : tie.Need-bad-start-requires
@@ -187,12 +215,13 @@ abbrev passed : tie.After-ask-all → tie.Else1
 passed c = c .before .before .before .before .before
 
 first-asked : (c : tie.After-ask-all)
-    → onAllNear (asked LineA LineB (c .ask-all .result .at) (start (passed c) .args .allowance) (c .ask-all .result .came)) (second (start (passed c)) (start (passed c) .args .distance))
+    → onAllNear (asked LineA LineB (c .ask-all .result .at) (start (passed c) .args .allowance) (c .ask-all .result .came))
+    (second (start (passed c)) (start (passed c) .args .distance))
     ≡ whole (start (passed c))
 first-asked c =
     let s = start (passed c) in
     let d = toZ-ofZ {w = w64} (s .fits .distance) in
-    after-first s (c .ask-all .ensures LineA LineB ∙ (λ i. askAll LineA (pointsA s) LineB (pointsB s) (tableB s) (d i) 0 (pointsOf (pointsA s)) (fresh (s .args .allowance))))
+    after-first s (c .ask-all .ensures LineA LineB ∙ ap (first s) d)
 
 agreement-requires-2 : tie.Need-agreement-requires-2
 agreement-requires-2 c κs = search needs
@@ -204,7 +233,8 @@ returns-5 c =
     let r = w .ask-all .result in
     let e = c .before .before .end-in .ensures in
     c .agreement2 .ensures
-    ∙ answered k (stops LineA LineB (r .at) (start k .args .allowance) (r .came) _ (λ q. c .before .if3 .taken (e ∙ q)) ∙ first-asked w)
+    ∙ answered k
+    (stops LineA LineB (r .at) (start k .args .allowance) (r .came) _ (λ q. c .before .if3 .taken (e ∙ q)) ∙ first-asked w)
 
 tally-in-requires : tie.Need-tally-in-requires
 tally-in-requires c κs = search needs
@@ -217,7 +247,8 @@ abbrev begin : tie.After-tally-in → tie.Start
 begin c = start (passed (asked-a c))
 
 after-both : (c : tie.After-tally-in) (i r : ℕ)
-    → asked LineB LineA i (c .tally-in .result .allowance) r ≡ second (begin c) (begin c .args .distance) (c .tally-in .result)
+    → asked LineB LineA i (c .tally-in .result .allowance) r
+    ≡ second (begin c) (begin c .args .distance) (c .tally-in .result)
     → asked LineB LineA i (begin c .args .allowance) r ≡ whole (begin c)
 after-both c i came q =
     let w = asked-a c in
@@ -229,7 +260,8 @@ after-both c i came q =
     ap (λ (y : Tally). asked LineB LineA i (y .allowance) came) (sym (c .tally-in .ensures))
     ∙ q
     ∙ ap (second s (a .distance)) (c .tally-in .ensures)
-    ∙ sym (ap (λ (x : Asked). onAllNear x (second s (a .distance))) (is-near LineA LineB (r .at) (a .allowance) (r .came) near))
+    ∙ sym (ap (λ (x : Asked). onAllNear x (second s (a .distance)))
+    (is-near LineA LineB (r .at) (a .allowance) (r .came) near))
     ∙ first-asked w
 
 ends-on-sheet-requires-2 : tie.Need-ends-on-sheet-requires-2
@@ -247,9 +279,12 @@ returns-6 c =
     let o = w .before .before .before in
     let k = passed (asked-a o) in
     let s = start k in
+    let b = w .bad-start2 in
     let off = sym (w .before .before .ends-on-sheet2 .ensures) ∙ not-true _ (w .before .if4 .taken) in
     c .agreement3 .ensures
-    ∙ answered k (after-both o (w .bad-start2 .result .at) (w .bad-start2 .result .came) (w .bad-start2 .ensures .0 (pointsA s) (tableA s) (s .args .distance) (lengths k .0) off LineB LineA))
+    ∙ answered k
+    (after-both o (b .result .at) (b .result .came)
+    (b .ensures .0 (pointsA s) (tableA s) (s .args .distance) (lengths k .0) off LineB LineA))
 
 ask-all-requires-2 : tie.Need-ask-all-requires-2
 ask-all-requires-2 c κs =

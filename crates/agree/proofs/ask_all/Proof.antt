@@ -21,15 +21,20 @@ use Rattle.agree.proofs.ask_all.Tie as tie
 abbrev Inv-loop : tie.InvT-loop
 Inv-loop points theirs table d tally count came₀ i₀ came i =
     (i ≤ count) × (endIn came ≡ 2)
-    × ((line other : Line) → askAll line points other (theirs .now) (table .now) (toZ w64 d) i (count - i) (tallyIn (tally .allowance) came)
+    × ((line other : Line)
+    → askAll line points other (theirs .now) (table .now) (toZ w64 d) i (count - i) (tallyIn (tally .allowance) came)
     ≡ askAll line points other (theirs .now) (table .now) (toZ w64 d) 0 count tally)
 
 abbrev μ-loop : tie.MeasureT-loop
 μ-loop points theirs table d tally count came₀ i₀ came i = count - i
 
--- points of the line against the other, as many from i on, with the distance as it is read back
+-- points of the line against the other at a distance, as many from i on; and with the distance as it is read back
+abbrev asksAt : tie.Start Inv-loop μ-loop → Line → Line → ℤ → ℕ → ℕ → Tally → Asked
+asksAt s line other d =
+    askAll line (s .args .points .now) other (s .args .theirs .now .now) (s .args .table .now .now) d
+
 abbrev asks : tie.Start Inv-loop μ-loop → Line → Line → ℕ → ℕ → Tally → Asked
-asks s line other = askAll line (s .args .points .now) other (s .args .theirs .now .now) (s .args .table .now .now) (toZ w64 (ofZ w64 (s .args .d)))
+asks s line other = asksAt s line other (toZ w64 (ofZ w64 (s .args .d)))
 
 abbrev count : tie.Start Inv-loop μ-loop → ℕ
 count s = pointsOf (s .args .points .now)
@@ -37,9 +42,9 @@ count s = pointsOf (s .args .points .now)
 -- which is the distance itself
 all-asked : (s : tie.Start Inv-loop μ-loop) (line other : Line)
     → asks s line other 0 (count s) (s .args .tally)
-    ≡ askAll line (s .args .points .now) other (s .args .theirs .now .now) (s .args .table .now .now) (s .args .d) 0 (count s) (s .args .tally)
+    ≡ asksAt s line other (s .args .d) 0 (count s) (s .args .tally)
 all-asked s line other =
-    ap (λ (d : ℤ). askAll line (s .args .points .now) other (s .args .theirs .now .now) (s .args .table .now .now) d 0 (count s) (s .args .tally)) (stored (s .pre .2) tt)
+    ap (λ (d : ℤ). asksAt s line other d 0 (count s) (s .args .tally)) (stored (s .pre .2) tt)
 
 abbrev start : tie.After-ask-point Inv-loop μ-loop → tie.Start Inv-loop μ-loop
 start c = c .before .before .before .before .before
@@ -49,19 +54,22 @@ at c = c .before .before .before .loop .i
 
 -- a point is asked: with those after it, it comes to what they all come to
 after-point : (c : tie.After-ask-point Inv-loop μ-loop) (line other : Line)
-    → onAllNear (asked line other (at c) (start c .args .tally .allowance) (c .ask-point .result)) (asks (start c) line other (at c + 1) (count (start c) - (at c + 1)))
+    → onAllNear (asked line other (at c) (start c .args .tally .allowance) (c .ask-point .result))
+    (asks (start c) line other (at c + 1) (count (start c) - (at c + 1)))
     ≡ asks (start c) line other 0 (count (start c)) (start c .args .tally)
 after-point c line other =
     let s = start c in
     let i = at c in
     let a = s .args in
     let y = c .before .tally-in .ensures in
+    let l = c .before .before .before .loop in
     ap (λ (x : Asked). onAllNear x (asks s line other (i + 1) (count s - (i + 1))))
     (ap (λ (x : Tally). asked line other i (x .allowance) (c .ask-point .result)) (sym y)
     ∙ c .ask-point .ensures line other
     ∙ (λ j. asks s line other i 1 (y j)))
-    ∙ sym (next-point line (a .points .now) other (a .theirs .now .now) (a .table .now .now) (toZ w64 (ofZ w64 (a .d))) (count s) i (tallyIn (a .tally .allowance) (c .before .before .before .loop .came)) (c .before .before .loop-test .taken))
-    ∙ c .before .before .before .loop .inv .2 line other
+    ∙ sym (next-point line (a .points .now) other (a .theirs .now .now) (a .table .now .now) (toZ w64 (ofZ w64 (a .d)))
+    (count s) i (tallyIn (a .tally .allowance) (l .came)) (c .before .before .loop-test .taken))
+    ∙ l .inv .2 line other
 
 came-requires : tie.Need-came-requires Inv-loop μ-loop
 came-requires c κs = search needs
@@ -71,10 +79,11 @@ loop-holds c =
     let s = c .before in
     let v = s .args .tally .visits in
     let e = c .came .ensures in
+    let made = ap visitsIn e ∙ visits-in v 2 (omega arith) in
     let all : count s - 0 ≡ count s = omega arith in (
       omega arith,
       ap endIn e ∙ end-in v 2 (omega arith),
-      λ line other. (λ j. asks s line other 0 (all j) (record { allowance = s .args .tally .allowance; visits = (ap visitsIn e ∙ visits-in v 2 (omega arith)) j })),
+      λ line other. (λ j. asks s line other 0 (all j) (record { allowance = s .args .tally .allowance; visits = made j })),
     )
 
 tally-in-requires : tie.Need-tally-in-requires Inv-loop μ-loop
@@ -92,7 +101,9 @@ returns : tie.Need-returns Inv-loop μ-loop
 returns c line other =
     let p = c .before .before in
     let e = c .before .end-in .ensures in
-    stops line other (at p) (start p .args .tally .allowance) (p .ask-point .result) _ (λ q. c .if1 .taken (e ∙ q)) ∙ after-point p line other ∙ all-asked (start p) line other
+    stops line other (at p) (start p .args .tally .allowance) (p .ask-point .result) _ (λ q. c .if1 .taken (e ∙ q))
+    ∙ after-point p line other
+    ∙ all-asked (start p) line other
 
 add-i : tie.Need-add-i Inv-loop μ-loop
 add-i c = search needs
@@ -110,7 +121,8 @@ loop-again c =
       omega (arith, p .before .before .loop-test .taken),
       near,
       λ line other.
-          sym (ap (λ (x : Asked). onAllNear x (asks s line other (i + 1) (count s - (i + 1)))) (is-near line other i (s .args .tally .allowance) (p .ask-point .result) near))
+          sym (ap (λ (x : Asked). onAllNear x (asks s line other (i + 1) (count s - (i + 1))))
+          (is-near line other i (s .args .tally .allowance) (p .ask-point .result) near))
           ∙ after-point p line other,
     )
 
@@ -122,7 +134,8 @@ returns-2 c line other =
     let r = c .before .loop .came in
     let e : count s - i ≡ 0 = omega (arith, c .loop-test .left) in
     is-near line other i (a .tally .allowance) r (c .before .loop .inv .1)
-    ∙ no-point line (a .points .now) other (a .theirs .now .now) (a .table .now .now) (toZ w64 (ofZ w64 (a .d))) i (count s - i) (tallyIn (a .tally .allowance) r) e
+    ∙ no-point line (a .points .now) other (a .theirs .now .now) (a .table .now .now) (toZ w64 (ofZ w64 (a .d)))
+    i (count s - i) (tallyIn (a .tally .allowance) r) e
     ∙ c .before .loop .inv .2 line other
     ∙ all-asked s line other
 

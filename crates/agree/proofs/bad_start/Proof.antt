@@ -32,11 +32,13 @@ returns c =
     let s = c .before .before .before .before in
     let y = s .args .tally in
     let ps = s .args .points .now in
-    let e = end-in (y .visits) OFF (omega arith) in (
+    let e = end-in (y .visits) OFF (omega arith) in
+    let it = sym (said (c .before .before)) ∙ not-true _ (c .before .if1 .taken) in (
       λ theirs table d h off line other. ap (asked line other 0 (y .allowance)) (c .came .ensures)
-          ∙ first-stops line ps other theirs table d (y .allowance) (pointsOf ps) (came (y .visits) OFF) y (s .pre) (λ q. omega (arith, e, q))
+          ∙ first-stops line ps other theirs table d (y .allowance) (pointsOf ps) (came (y .visits) OFF) y (s .pre)
+          (λ q. omega (arith, e, q))
           (reads-off line other 0 (y .allowance) (y .visits)
-          ∙ one-point line ps other theirs table d 0 y (sym (said (c .before .before)) ∙ not-true _ (c .before .if1 .taken))),
+          ∙ one-point line ps other theirs table d 0 y it),
       omega (arith, e, c .came .ensures),
     )
 
@@ -49,11 +51,13 @@ returns-2 c =
     let y = s .args .tally in
     let ps = s .args .points .now in
     let r = due (next y) badRow in
-    let e = root-end (next y) in (
+    let e = root-end (next y) in
+    let on = sym (said (c .before .before)) ∙ not-false _ (c .before .if1 .left) in (
       λ theirs table d h off line other. ap (asked line other 0 (y .allowance)) (c .bad-row-due .ensures)
-          ∙ first-stops line ps other theirs table d (y .allowance) (pointsOf ps) r y (s .pre) (λ q. omega (arith, e .0, q))
+          ∙ first-stops line ps other theirs table d (y .allowance) (pointsOf ps) r y (s .pre)
+          (λ q. omega (arith, e .0, q))
           (heard line other 0 (y .allowance) r (λ q. omega (arith, e .1, q)) (root-bad other other (point ps 0) d y h off)
-          ∙ one-point line ps other theirs table d 0 y (sym (said (c .before .before)) ∙ not-false _ (c .before .if1 .left))),
+          ∙ one-point line ps other theirs table d 0 y on),
       omega (arith, e .0, c .bad-row-due .ensures),
     )
 

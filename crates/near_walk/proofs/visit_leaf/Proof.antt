@@ -1,6 +1,6 @@
 -- `visit_leaf` makes the tests of the definition in its order.
 use mathlib.Core.Path.{_≡_, sym, _∙_, ap, subst}
-use mathlib.Core.Bool.{true, false, not, _&&_}
+use mathlib.Core.Bool.{Bool, true, false, not}
 use borrow.Author.Tests.{not-true, not-false}
 use lib.Dec.{T-not}
 use lib.IntN.{ℤ, _*ℤ_}
@@ -14,6 +14,7 @@ use Rattle.rules.specs.Questions.{farFrom}
 use Rattle.visits.specs.Small.{Small}
 use Rattle.visits.proofs.Sizes.{step-small}
 use Rattle.line.proofs.Stored.{stored, stored-abs}
+use Rattle.row.specs.Parts.{leafFits}
 use Rattle.near_walk.specs.Said.{leafBy}
 use Rattle.line.proofs.Headings.{heads-along}
 use borrow.Author.Needs.{needs}
@@ -23,11 +24,18 @@ use Rattle.near_walk.proofs.visit_leaf.Tie as tie
 leaf-good-requires : tie.Need-leaf-good-requires
 leaf-good-requires c κs = search needs
 
+-- whether the strip is far at a distance, and whether the segment is within it
+abbrev isFar : tie.Start → ℤ → Bool
+isFar s D = farFrom (s .args .r) (s .args .a) (direction (s .args .a) (s .args .b)) (s .args .z) D
+
+abbrev isWithin : tie.Start → ℤ → Bool
+isWithin s D = within (s .args .z) (s .args .a) (s .args .b) D
+
 returns : tie.Need-returns
 returns c =
-    let a = c .before .before .args in
+    let s = c .before .before in
     let g = sym (c .before .leaf-good .ensures) ∙ not-true _ (c .if1 .taken) in
-    (λ D e. sym (λ i. leafBy (g i) (farFrom (a .r) (a .a) (direction (a .a) (a .b)) (a .z) D) (within (a .z) (a .a) (a .b) D)), λ first last. tt)
+    (λ D e. sym (λ i. leafBy (g i) (isFar s D) (isWithin s D)), λ first last. tt)
 
 step-requires : tie.Need-step-requires
 step-requires c κs = search needs
@@ -38,29 +46,33 @@ far-along-requires c κs =
     (p .0, p .1, subst Small (sym (c .step .ensures)) (step-small (p .1) (p .2)), p .3, stored-abs (p .4) tt)
 
 -- the leaf is good: its points differ, and its direction is its step
-was-good : (c : tie.Else1) → eqZ (c .before .before .args .r .split) noSplit && not (samePoint (c .before .before .args .a) (c .before .before .args .b)) ≡ true
+abbrev start : tie.Else1 → tie.Start
+start c = c .before .before
+
+was-good : (c : tie.Else1) → leafFits (start c .args .r) (start c .args .a) (start c .args .b) ≡ true
 was-good c = sym (c .before .leaf-good .ensures) ∙ not-false _ (c .if1 .left)
 
-differ : (c : tie.Else1) → samePoint (c .before .before .args .a) (c .before .before .args .b) ≡ false
+differ : (c : tie.Else1) → samePoint (start c .args .a) (start c .args .b) ≡ false
 differ c =
-    let a = c .before .before .args in
+    let a = start c .args in
     let same = samePoint (a .a) (a .b) in
     no-T same (T-not same (and-yes (eqZ (a .r .split) noSplit) (not same) (T-true (was-good c)) .1))
 
-far-said : (c : tie.After-far-along) (D : ℤ) → c .before .before .before .before .args .reach ≡ D *ℤ D
-    → c .far-along .result
-    ≡ farFrom (c .before .before .before .before .args .r) (c .before .before .before .before .args .a) (direction (c .before .before .before .before .args .a) (c .before .before .before .before .args .b)) (c .before .before .before .before .args .z) D
+far-said : (c : tie.After-far-along) (D : ℤ) → start (c .before .before) .args .reach ≡ D *ℤ D
+    → c .far-along .result ≡ isFar (start (c .before .before)) D
 far-said c D e =
-    let s = c .before .before .before .before in
-    let a = s .args in
-    c .far-along .ensures D (stored (s .pre .4) tt ∙ e)
-    ∙ ap (λ (u : Point). farFrom (a .r) (a .a) u (a .z) D) (c .before .step .ensures ∙ sym (heads-along (a .a) (a .b) (differ (c .before .before))))
+    let k = c .before .before in
+    let a = start k .args in
+    let u = c .before .step .ensures ∙ sym (heads-along (a .a) (a .b) (differ k)) in
+    c .far-along .ensures D (stored (start k .pre .4) tt ∙ e) ∙ ap (λ (u : Point). farFrom (a .r) (a .a) u (a .z) D) u
 
 returns-2 : tie.Need-returns-2
 returns-2 c =
-    let a = c .before .before .before .before .before .args in
-    let g = was-good (c .before .before .before) in
-    (λ D e. let f = sym (far-said (c .before) D e) ∙ c .if2 .taken in sym (λ i. leafBy (g i) (f i) (within (a .z) (a .a) (a .b) D)), λ first last. tt)
+    let s = start (c .before .before .before) in
+    let g = was-good (c .before .before .before) in (
+      λ D e. let f = sym (far-said (c .before) D e) ∙ c .if2 .taken in sym (λ i. leafBy (g i) (f i) (isWithin s D)),
+      λ first last. tt,
+    )
 
 within-requires : tie.Need-within-requires
 within-requires c κs = search needs
