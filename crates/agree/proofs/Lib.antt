@@ -1,3 +1,2 @@
--- Laws that the proofs of `agree` share.
-pub mod Points
+-- Laws of AGREE's reply.
 pub mod Replies

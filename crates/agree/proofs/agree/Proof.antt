@@ -29,8 +29,8 @@ use Rattle.line.proofs.Lengths.{lengths-fine}
 use Rattle.line.proofs.Stored.{stored-abs}
 use Rattle.ends.specs.Came.{endIn}
 use Rattle.reach.proofs.Sizes.{distance-abs}
-use Rattle.agree.specs.Said.{asked}
-use Rattle.agree.proofs.Points.{is-near, stops}
+use Rattle.agree_walk.specs.Said.{asked}
+use Rattle.agree_walk.proofs.Points.{is-near, stops}
 use Rattle.agree.proofs.Replies.{walksReply, distanceRefusal, agree-checked}
 use borrow.Author.Needs.{needs}
 use Rattle.agree.proofs.agree.Statement.{statement}

@@ -8,11 +8,11 @@ use Rattle.rules.specs.Walk.{next}
 use Rattle.ends.specs.Came.{came, badRow, due}
 use Rattle.ends.proofs.Ends.{end-in}
 use Rattle.near_walk.proofs.Visits.{root-bad}
-use Rattle.agree.specs.Said.{OFF, asked}
-use Rattle.agree.proofs.Points.{reads-off, root-end, heard, one-point, first-stops}
+use Rattle.agree_walk.specs.Said.{OFF, asked}
+use Rattle.agree_walk.proofs.Points.{reads-off, root-end, heard, one-point, first-stops}
 use borrow.Author.Needs.{needs}
-use Rattle.agree.proofs.bad_start.Statement.{statement}
-use Rattle.agree.proofs.bad_start.Tie as tie
+use Rattle.agree_walk.proofs.bad_start.Statement.{statement}
+use Rattle.agree_walk.proofs.bad_start.Tie as tie
 
 -- the first point is on the sheet as it stands in the line
 said : (c : tie.After-on-sheet) → c .on-sheet .result ≡ onSheet (point (c .before .before .args .points .now) 0)

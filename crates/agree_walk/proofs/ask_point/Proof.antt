@@ -13,11 +13,11 @@ use Rattle.rules.specs.Questions.{nearWalk}
 use Rattle.visits.proofs.OnSheets.{on-sheet}
 use Rattle.line.proofs.Stored.{stored, stored-abs}
 use Rattle.ends.specs.Came.{endIn, badSecond, cameTo}
-use Rattle.agree.specs.Said.{asked}
-use Rattle.agree.proofs.Points.{reads-off, heard, one-line, one-point}
+use Rattle.agree_walk.specs.Said.{asked}
+use Rattle.agree_walk.proofs.Points.{reads-off, heard, one-line, one-point}
 use borrow.Author.Needs.{needs}
-use Rattle.agree.proofs.ask_point.Statement.{statement}
-use Rattle.agree.proofs.ask_point.Tie as tie
+use Rattle.agree_walk.proofs.ask_point.Statement.{statement}
+use Rattle.agree_walk.proofs.ask_point.Tie as tie
 
 -- the line, the other and its table, and the point
 abbrev ps : tie.Start → List ℤ

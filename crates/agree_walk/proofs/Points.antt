@@ -17,7 +17,7 @@ use Rattle.rules.specs.Walk.{Walked, ended, over, spent, refused}
 use Rattle.rules.specs.Questions.{Nothing, nearWalk, Asked, allNear, notNear, unasked, faulted, onNear, askAll, onAllNear}
 use Rattle.ends.specs.Came.{came, visitsIn, endIn, SPENT, badRow, badSecond, refusalAt, refusalIn, tallyIn, due, cameTo}
 use Rattle.ends.proofs.Ends.{visits-in, end-in, is-even, is-odd, is-ended, is-spent, is-bad}
-use Rattle.agree.specs.Said.{OFF, offSheet, asked}
+use Rattle.agree_walk.specs.Said.{OFF, offSheet, asked}
 
 -- ---------------- how the asking of point i ended
 module _ (line other : Line) (i allowance : ℕ) where

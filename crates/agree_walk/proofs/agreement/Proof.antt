@@ -5,11 +5,11 @@ use native.Mathlib.Omega.{arith}
 use Rattle.rules.specs.Reply.{YES, says, refuses, disagrees}
 use Rattle.rules.specs.Questions.{agreed}
 use Rattle.ends.specs.Came.{endIn, badRow}
-use Rattle.agree.specs.Said.{offSheet}
-use Rattle.agree.proofs.Points.{is-not-near, is-near, is-unasked, is-off, is-refused}
+use Rattle.agree_walk.specs.Said.{offSheet}
+use Rattle.agree_walk.proofs.Points.{is-not-near, is-near, is-unasked, is-off, is-refused}
 use borrow.Author.Needs.{needs}
-use Rattle.agree.proofs.agreement.Statement.{statement}
-use Rattle.agree.proofs.agreement.Tie as tie
+use Rattle.agree_walk.proofs.agreement.Statement.{statement}
+use Rattle.agree_walk.proofs.agreement.Tie as tie
 
 end-in-requires : tie.Need-end-in-requires
 end-in-requires c κs = search needs

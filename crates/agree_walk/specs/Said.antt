@@ -1,4 +1,4 @@
--- What the values of `agree` say, in the words of the definitions.
+-- What the values of `agree_walk` say, in the words of the definitions.
 use mathlib.Core.Path.{_≡_}
 use mathlib.Core.Bool.{cond, false}
 use mathlib.Core.List.{List}
@@ -13,7 +13,7 @@ use Rattle.rules.specs.Rows.{endsGood}
 use Rattle.rules.specs.Questions.{Asked, allNear, faulted, onNear, askAll}
 use Rattle.line.specs.Fine.{LengthsFine}
 use Rattle.ends.specs.Came.{visitsIn, endIn, cameTo}
-use Rattle.agree.specs.declared.Stopped.{Stopped}
+use Rattle.agree_walk.specs.declared.Stopped.{Stopped}
 
 -- how the asking of a point off the sheet ends, above every bad row's number, and refusal 8 of it
 abbrev pub OFF : ℕ

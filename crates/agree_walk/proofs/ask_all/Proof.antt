@@ -12,11 +12,11 @@ use Rattle.rules.specs.Questions.{Asked, askAll, onAllNear}
 use Rattle.line.proofs.Stored.{stored, stored-abs}
 use Rattle.ends.specs.Came.{visitsIn, endIn, tallyIn}
 use Rattle.ends.proofs.Ends.{visits-in, end-in}
-use Rattle.agree.specs.Said.{asked}
-use Rattle.agree.proofs.Points.{is-near, stops, next-point, no-point}
+use Rattle.agree_walk.specs.Said.{asked}
+use Rattle.agree_walk.proofs.Points.{is-near, stops, next-point, no-point}
 use borrow.Author.Needs.{needs}
-use Rattle.agree.proofs.ask_all.Statement.{statement}
-use Rattle.agree.proofs.ask_all.Tie as tie
+use Rattle.agree_walk.proofs.ask_all.Statement.{statement}
+use Rattle.agree_walk.proofs.ask_all.Tie as tie
 
 abbrev Inv-loop : tie.InvT-loop
 Inv-loop points theirs table d tally count came₀ i₀ came i =

@@ -1,2 +1,0 @@
--- What the contracts of `agree` are said with.
-pub mod Said

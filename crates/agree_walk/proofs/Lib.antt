@@ -1,0 +1,2 @@
+-- Laws of points asked one after another.
+pub mod Points
