@@ -1,5 +1,5 @@
-// AGREE: whether each point of one line is near the other line, both ways round. The checks in their order, then the walks;
-// the answer is that of `rules`, for all numbers that the slices can hold.
+// AGREE: whether each point of one line is near the other line, both ways round. The checks in their order, then the
+// walks; the answer is that of `rules`, for all numbers that the slices can hold.
 use line::Checked;
 use rules::Agreement;
 use rules::Line;

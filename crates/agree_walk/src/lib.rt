@@ -1,5 +1,5 @@
-// AGREE's walks: a line's points in order against the other line. Each point is a NEAR walk of its own, and one tally goes
-// through them all; how the asking ends is that of `rules`, for all numbers that the slices can hold.
+// AGREE's walks: a line's points in order against the other line. Each point is a NEAR walk of its own, and one tally
+// goes through them all; how the asking ends is that of `rules`, for all numbers that the slices can hold.
 use rules::Agreement;
 use rules::Line;
 use rules::Refusal;

@@ -1,5 +1,5 @@
-// NEAR: whether a point lies within a distance of a line. The checks in their order, then the walk; the answer is that of
-// `rules`, for all numbers that the slices can hold.
+// NEAR: whether a point lies within a distance of a line. The checks in their order, then the walk; the answer is that
+// of `rules`, for all numbers that the slices can hold.
 use line::Checked;
 use rules::Answer;
 use rules::Line;

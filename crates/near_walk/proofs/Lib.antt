@@ -1,2 +1,2 @@
--- Laws of NEAR's visits.
-pub mod Visits
+-- Laws of the walk of a whole line.
+pub mod Root

@@ -7,7 +7,7 @@ use Rattle.rules.specs.Sheet.{point, pointsOf, onSheet}
 use Rattle.rules.specs.Walk.{next}
 use Rattle.ends.specs.Came.{came, badRow, due}
 use Rattle.ends.proofs.Ends.{end-in}
-use Rattle.near_walk.proofs.Visits.{root-bad}
+use Rattle.near_walk.proofs.Root.{root-bad}
 use Rattle.agree_walk.specs.Said.{OFF, asked}
 use Rattle.agree_walk.proofs.Points.{reads-off, root-end, heard, one-point, first-stops}
 use borrow.Author.Needs.{needs}

@@ -24,17 +24,17 @@ use Rattle.ends.specs.Came.{badRow, due, cameTo}
 use Rattle.ends.proofs.Dues.{due-stops, reads-bad-due}
 use Rattle.ends.proofs.Ends.{reads-even, reads-ended, reads-spent, reads-bad, stops, goes, keeps}
 use Rattle.row.proofs.Places.{row-small, split-small, left-stands, right-stands, left-ends, right-ends}
-use Rattle.near_walk.specs.declared.Visited.{Visited}
-use Rattle.near_walk.specs.declared.Visited.the-variants.{Bad, Finish, Pass}
-use Rattle.near_walk.specs.Said.{visitOf, SplitsBetween}
-use Rattle.near_walk.proofs.Visits.{end-bad}
+use Rattle.near_visit.specs.declared.Visited.{Visited}
+use Rattle.near_visit.specs.declared.Visited.the-variants.{Bad, Finish, Pass}
+use Rattle.near_visit.specs.Said.{visitOf, SplitsBetween}
+use Rattle.near_visit.proofs.Visits.{end-bad}
 use borrow.Fn.Kinds.{In}
 use borrow.Fn.PlainCycle.{Measures, is, falls, and}
 use borrow.Author.Needs.{needs}
 use Rattle.near_walk.proofs.walk.Reads as walk
 use Rattle.near_walk.proofs.walk.Kinds as walk-kinds
 use Rattle.near_walk.proofs.+walk.Lts-walk as walk-lts
-use Rattle.near_walk.proofs.visit.Reads as visit-reads
+use Rattle.near_visit.proofs.visit.Reads as visit-reads
 use Rattle.line.proofs.on_sheet.Reads as on-sheet-reads
 use Rattle.line.proofs.point_at.Reads as point-at-reads
 use Rattle.ends.proofs.bad_row.Reads as bad-row-reads

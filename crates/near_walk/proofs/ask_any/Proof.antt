@@ -6,7 +6,7 @@ use Rattle.whole.specs.Order.{T-true}
 use Rattle.rules.specs.Questions.{nearWalk}
 use Rattle.line.proofs.Stored.{stored, stored-abs}
 use Rattle.ends.specs.Came.{cameTo}
-use Rattle.near_walk.proofs.Visits.{root-bad}
+use Rattle.near_walk.proofs.Root.{root-bad}
 use borrow.Author.Needs.{needs}
 use Rattle.near_walk.proofs.ask_any.Statement.{statement}
 use Rattle.near_walk.proofs.ask_any.Tie as tie

@@ -12,12 +12,12 @@ use Rattle.rules.specs.Plane.{direction}
 use Rattle.rules.specs.Questions.{splitIn, farFrom}
 use Rattle.line.proofs.Stored.{stored}
 use Rattle.row.specs.Parts.{splitFits}
-use Rattle.near_walk.specs.Said.{innerBy}
-use Rattle.near_walk.specs.declared.Visited.the-variants.{Halve}
-use Rattle.near_walk.proofs.Visits.{split-between}
+use Rattle.near_visit.specs.Said.{innerBy}
+use Rattle.near_visit.specs.declared.Visited.the-variants.{Halve}
+use Rattle.near_visit.proofs.Visits.{split-between}
 use borrow.Author.Needs.{needs}
-use Rattle.near_walk.proofs.visit_inner.Statement.{statement}
-use Rattle.near_walk.proofs.visit_inner.Tie as tie
+use Rattle.near_visit.proofs.visit_inner.Statement.{statement}
+use Rattle.near_visit.proofs.visit_inner.Tie as tie
 
 splits-inside-requires : tie.Need-splits-inside-requires
 splits-inside-requires c κs = search needs

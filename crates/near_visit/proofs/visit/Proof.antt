@@ -11,12 +11,12 @@ use Rattle.visits.specs.Small.{OnSheet}
 use Rattle.visits.proofs.OnSheets.{on-sheet}
 use Rattle.line.proofs.Stored.{stored, stored-abs}
 use Rattle.reach.specs.Bounds.{HoldsStart}
-use Rattle.near_walk.specs.Said.{visitOf, leafSeen, innerSeen}
+use Rattle.near_visit.specs.Said.{visitOf, leafSeen, innerSeen}
 use Rattle.row.specs.Parts.{frameGood}
-use Rattle.near_walk.proofs.Visits.{holds-start, frame-bad, leaf-visit, inner-visit}
+use Rattle.near_visit.proofs.Visits.{holds-start, frame-bad, leaf-visit, inner-visit}
 use borrow.Author.Needs.{needs}
-use Rattle.near_walk.proofs.visit.Statement.{statement}
-use Rattle.near_walk.proofs.visit.Tie as tie
+use Rattle.near_visit.proofs.visit.Statement.{statement}
+use Rattle.near_visit.proofs.visit.Tie as tie
 
 abbrev ps : tie.Start → List ℤ
 ps s = s .args .points .now

@@ -3,7 +3,6 @@ use mathlib.Core.Path.{_≡_, refl, sym, _∙_}
 use mathlib.Core.Bool.{Bool, true, false, cond, _&&_}
 use mathlib.Core.List.{List}
 use Prim.Native.Nat.{ℕ, _<_}
-use native.Mathlib.Omega.{arith}
 use lib.IntN.{ℤ, pos, natAbs}
 use lib.Signed.{leZ, ltZ, leZ-yes, ltZ-yes}
 use mir.Facts.{and-yes}
@@ -12,24 +11,20 @@ use Rattle.rules.specs.declared.Line.{Line}
 use Rattle.rules.specs.declared.Node.{Node}
 use Rattle.rules.specs.declared.Point.{Point}
 use Rattle.rules.specs.declared.Row.{Row}
-use Rattle.rules.specs.declared.Tally.{Tally}
 use Rattle.rules.specs.Plain.{within}
-use Rattle.rules.specs.Sheet.{segmentsOf, onSheet}
+use Rattle.rules.specs.Sheet.{onSheet}
 use Rattle.rules.specs.Tree.{rowAt}
 use Rattle.rules.specs.Rows.{rangeGood, stripGood, boxGood, endsGood, good}
-use Rattle.rules.specs.Walk.{next, Visit, refuse, finish, pass, halve}
-use Rattle.rules.specs.Questions.{Nothing, root, leaf, splitIn, openNode, startOf, endOf, headingOf, farFrom, nearVisit, nearWalk}
+use Rattle.rules.specs.Walk.{Visit, refuse, finish, pass, halve}
+use Rattle.rules.specs.Questions.{Nothing, leaf, splitIn, openNode, startOf, endOf, headingOf, farFrom, nearVisit}
 use Rattle.visits.proofs.Nodes.{between-read}
 use Rattle.visits.proofs.Tests.{four-yes}
-use Rattle.line.specs.Fine.{LengthsFine}
-use Rattle.ends.specs.Came.{badRow, due, cameTo}
 use Rattle.row.specs.Parts.{frameGood, leafFits, splitFits}
 use Rattle.row.specs.Stands.{Stands, EndsOn}
-use Rattle.ends.proofs.Dues.{reads-bad-due}
 use Rattle.row.proofs.Parts.{lastRule, end-off, ends-off, between-parts}
 use Rattle.row.proofs.Places.{opens}
 use Rattle.reach.specs.Bounds.{HoldsStart}
-use Rattle.near_walk.specs.Said.{visitOf, leafBy, innerBy, leafSeen, innerSeen}
+use Rattle.near_visit.specs.Said.{visitOf, leafBy, innerBy, leafSeen, innerSeen}
 
 -- ---------------- what a row tells that passes a test
 pub holds-start : (r : Row) (first last : ℕ) → frameGood r first last ≡ true → HoldsStart r
@@ -110,9 +105,3 @@ module _ (l : Line) (ps t : List ℤ) (z : Point) (D : ℤ) (n : Node) where
           by true true e = refl
           by true false e = let s = split-between (n .first) (n .last) (row .split) e in sym (opens h (s .0) (s .1) l halve)
           by false f e = refl
-
--- ---------------- the walk of a line that begins or ends off the sheet stops at its root
-pub root-bad : (l m : Line) {ps t : List ℤ} (z : Point) (D : ℤ) (y : Tally) → LengthsFine ps t → endsGood ps 0 (segmentsOf ps) ≡ false
-    → cameTo tt tt l m (y .allowance) (due (next y) badRow) ≡ nearWalk l ps t z D y
-root-bad l m {ps} {t} z D y h e =
-    reads-bad-due tt tt l m (nearVisit l ps t z D) (root ps) tt y (segmentsOf ps) (omega (arith, h .some-points)) 0 (omega arith) (ends-bad l ps t z D (root ps) e)

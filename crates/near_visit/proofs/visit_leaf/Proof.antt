@@ -15,11 +15,11 @@ use Rattle.visits.specs.Small.{Small}
 use Rattle.visits.proofs.Sizes.{step-small}
 use Rattle.line.proofs.Stored.{stored, stored-abs}
 use Rattle.row.specs.Parts.{leafFits}
-use Rattle.near_walk.specs.Said.{leafBy}
+use Rattle.near_visit.specs.Said.{leafBy}
 use Rattle.line.proofs.Headings.{heads-along}
 use borrow.Author.Needs.{needs}
-use Rattle.near_walk.proofs.visit_leaf.Statement.{statement}
-use Rattle.near_walk.proofs.visit_leaf.Tie as tie
+use Rattle.near_visit.proofs.visit_leaf.Statement.{statement}
+use Rattle.near_visit.proofs.visit_leaf.Tie as tie
 
 leaf-good-requires : tie.Need-leaf-good-requires
 leaf-good-requires c κs = search needs

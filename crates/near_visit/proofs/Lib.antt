@@ -1,0 +1,2 @@
+-- Laws of NEAR's visits.
+pub mod Visits
