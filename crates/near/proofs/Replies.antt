@@ -23,9 +23,11 @@ module _ (ps t : List ℤ) (z : Point) (D : ℤ) (allowance : ℕ) where
   abbrev pub askedRefusal : Bool → Bool → Option Refusal
   askedRefusal d s = cond (not d) (some (early (distanceCheck D))) (cond (not s) (some (early (askedCheck z))) none)
 
-  pub near-checked : {o : Option Refusal} {d s : Bool} → firstRefusal (lengthChecks LineA ps t) ≡ o → distanceFits D ≡ d → onSheet z ≡ s
+  pub near-checked : {o : Option Refusal} {d s : Bool}
+      → firstRefusal (lengthChecks LineA ps t) ≡ o → distanceFits D ≡ d → onSheet z ≡ s
       → orRefused (orElse o (askedRefusal d s)) walkReply ≡ nearReply ps t z D allowance
   unfolding nearReply
   near-checked o d s =
-      sym (ap (λ (r : Option Refusal). orRefused r walkReply) (first-append (lengthChecks LineA ps t) (distanceCheck D ∷ askedCheck z ∷ []))
+      sym (ap (λ (r : Option Refusal). orRefused r walkReply)
+      (first-append (lengthChecks LineA ps t) (distanceCheck D ∷ askedCheck z ∷ []))
       ∙ (λ i. orRefused (orElse (o i) (askedRefusal (d i) (s i))) walkReply))

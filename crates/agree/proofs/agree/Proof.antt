@@ -63,15 +63,21 @@ startA c = c .before .before .before
 abbrev startB : tie.After-enum-told2 → tie.Start
 startB c = startA (c .before .before .before)
 
+said-a : (c : tie.After-check-lengths) → checkedRefusal (c .check-lengths .result) ≡ refusalA (c .before)
+said-a c = c .check-lengths .ensures
+
+said-b : (c : tie.After-check-lengths2) → checkedRefusal (c .check-lengths2 .result) ≡ refusalB (startA (c .before))
+said-b c = c .check-lengths2 .ensures
+
 fine-a : (c : tie.After-enum-told) → refusalA (startA c) ≡ none
 fine-a c =
     let e : c .before .before .check-lengths .result ≡ Fine = cc in
-    sym (c .before .before .check-lengths .ensures) ∙ ap checkedRefusal e
+    sym (said-a (c .before .before)) ∙ ap checkedRefusal e
 
 fine-b : (c : tie.After-enum-told2) → refusalB (startB c) ≡ none
 fine-b c =
     let e : c .before .before .check-lengths2 .result ≡ Fine = cc in
-    sym (c .before .before .check-lengths2 .ensures) ∙ ap checkedRefusal e
+    sym (said-b (c .before .before)) ∙ ap checkedRefusal e
 
 lengths-a : (c : tie.After-enum-told) → LengthsFine (pointsA (startA c)) (tableA (startA c))
 lengths-a c = lengths-fine LineA _ _ (fine-a c)
@@ -103,8 +109,8 @@ enum-known-checked-a c = search needs
 
 returns : tie.Need-returns
 returns c =
-    let said = c .before .before .before .check-lengths .ensures in
-    decided (c .before .before .before .before) (sym said ∙ ap checkedRefusal (c .before .checked-a .given .1)) refl refl
+    let k = c .before .before .before in
+    decided (k .before) (sym (said-a k) ∙ ap checkedRefusal (c .before .checked-a .given .1)) refl refl
 
 enum-told : tie.Need-enum-told
 enum-told c = search needs
@@ -117,9 +123,9 @@ enum-known-checked-b c = search needs
 
 returns-2 : tie.Need-returns-2
 returns-2 c =
-    let k = c .before .before .before .before in
-    let said = c .before .before .before .check-lengths2 .ensures in
-    decided (startA k) (fine-a k) (sym said ∙ ap checkedRefusal (c .before .checked-b .given .1)) refl
+    let k = c .before .before .before in
+    let e = sym (said-b k) ∙ ap checkedRefusal (c .before .checked-b .given .1) in
+    decided (startA (k .before)) (fine-a (k .before)) e refl
 
 enum-told-2 : tie.Need-enum-told-2
 enum-told-2 c = search needs

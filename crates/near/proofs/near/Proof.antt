@@ -1,6 +1,6 @@
 -- `near` asks the checks in the order of the list; where none refuses, the walk answers.
 use mathlib.Core.Path.{_≡_, refl, sym, _∙_, ap}
-use mathlib.Core.Bool.{true}
+use mathlib.Core.Bool.{Bool, true}
 use mathlib.Core.List.{List}
 use mathlib.Core.Option.{Option, none}
 use borrow.Author.Tests.{not-true, not-false}
@@ -12,18 +12,19 @@ use Rattle.rules.specs.declared.Answer.the-variants.{Refused}
 use Rattle.rules.specs.declared.Line.the-variants.{LineA, LineB}
 use Rattle.rules.specs.declared.Refusal.{Refusal}
 use Rattle.rules.specs.Sheet.{distanceFits, onSheet}
-use Rattle.rules.specs.Reply.{firstRefusal, answerReply}
+use Rattle.rules.specs.Reply.{Reply, firstRefusal, orRefused, answerReply}
 use Rattle.rules.specs.Rows.{lengthChecks}
 use Rattle.rules.specs.Walk.{Walked, fresh}
 use Rattle.rules.specs.Questions.{Nothing, yesOrNo, nearWalk, nearReply}
 use Rattle.line.specs.declared.Checked.the-variants.{Fine}
 use Rattle.line.specs.Fine.{LengthsFine}
 use Rattle.line.specs.Said.{checkedRefusal}
+use Rattle.visits.proofs.Checks.{orElse}
 use Rattle.visits.proofs.OnSheets.{on-sheet}
 use Rattle.line.proofs.Stored.{stored-abs}
 use Rattle.reach.proofs.Sizes.{distance-abs}
 use Rattle.line.proofs.Lengths.{lengths-fine}
-use Rattle.near.proofs.Replies.{near-checked}
+use Rattle.near.proofs.Replies.{walkReply, askedRefusal, near-checked}
 use borrow.Author.Needs.{needs}
 use Rattle.near.proofs.near.Statement.{statement}
 use Rattle.near.proofs.near.Tie as tie
@@ -40,13 +41,29 @@ abbrev lengthsRefusal : tie.Start → Option Refusal
 lengthsRefusal s = firstRefusal (lengthChecks LineA (ps s) (rows s))
 
 fine : (c : tie.After-enum-told) → lengthsRefusal (c .before .before .before) ≡ none
-fine c = let e : c .before .before .check-lengths .result ≡ Fine = cc in sym (c .before .before .check-lengths .ensures) ∙ ap checkedRefusal e
+fine c =
+    let e : c .before .before .check-lengths .result ≡ Fine = cc in
+    sym (c .before .before .check-lengths .ensures) ∙ ap checkedRefusal e
 
 lengths : (c : tie.After-enum-told) → LengthsFine (ps (c .before .before .before)) (rows (c .before .before .before))
 lengths c = lengths-fine LineA _ _ (fine c)
 
-distance-said : (c : tie.After-distance-fits) → c .distance-fits .result ≡ distanceFits (c .before .before .before .before .args .distance)
-distance-said c = c .distance-fits .ensures ∙ ap distanceFits (toZ-ofZ {w = w64} (c .before .before .before .before .fits .distance))
+distance-said : (c : tie.After-distance-fits)
+    → c .distance-fits .result ≡ distanceFits (c .before .before .before .before .args .distance)
+distance-said c =
+    let s = c .before .before .before .before in
+    c .distance-fits .ensures ∙ ap distanceFits (toZ-ofZ {w = w64} (s .fits .distance))
+
+-- they decide the reply
+abbrev reply : tie.Start → Reply
+reply s = nearReply (ps s) (rows s) (s .args .z) (s .args .distance) (s .args .allowance)
+
+decided : (s : tie.Start) {o : Option Refusal} {d b : Bool}
+    → lengthsRefusal s ≡ o → distanceFits (s .args .distance) ≡ d → onSheet (s .args .z) ≡ b
+    → orRefused (orElse o (askedRefusal (ps s) (rows s) (s .args .z) (s .args .distance) (s .args .allowance) d b))
+    (walkReply (ps s) (rows s) (s .args .z) (s .args .distance) (s .args .allowance))
+    ≡ reply s
+decided s = near-checked (ps s) (rows s) (s .args .z) (s .args .distance) (s .args .allowance)
 
 check-lengths-requires : tie.Need-check-lengths-requires
 check-lengths-requires c κs = search needs
@@ -56,9 +73,8 @@ enum-known-checked c = search needs
 
 returns : tie.Need-returns
 returns c =
-    let s = c .before .before .before .before in
-    let a = s .args in
-    near-checked (ps s) (rows s) (a .z) (a .distance) (a .allowance) (sym (c .before .before .before .check-lengths .ensures) ∙ ap checkedRefusal (c .before .checked .given .1)) refl refl
+    let said = c .before .before .before .check-lengths .ensures in
+    decided (c .before .before .before .before) (sym said ∙ ap checkedRefusal (c .before .checked .given .1)) refl refl
 
 enum-told : tie.Need-enum-told
 enum-told c = search needs
@@ -71,10 +87,10 @@ early-requires c κs = search needs
 
 returns-2 : tie.Need-returns-2
 returns-2 c =
-    let s = c .before .before .before .before .before .before in
-    let a = s .args in
+    let k = c .before .before .before in
+    let off = sym (distance-said (c .before .before)) ∙ not-true _ (c .before .if1 .taken) in
     ap (λ (r : Refusal). answerReply (Refused r)) (c .early .ensures)
-    ∙ near-checked (ps s) (rows s) (a .z) (a .distance) (a .allowance) (fine (c .before .before .before)) (sym (distance-said (c .before .before)) ∙ not-true _ (c .before .if1 .taken)) refl
+    ∙ decided (k .before .before .before) (fine k) off refl
 
 on-sheet-requires : tie.Need-on-sheet-requires
 on-sheet-requires c κs = search needs
@@ -88,10 +104,10 @@ fits c = sym (distance-said (c .before)) ∙ not-false _ (c .if1 .left)
 
 returns-3 : tie.Need-returns-3
 returns-3 c =
-    let s = c .before .before .before .before .before .before .before .before in
-    let a = s .args in
+    let k = c .before .before .before .before .before in
+    let off = sym (c .before .before .on-sheet .ensures) ∙ not-true _ (c .before .if2 .taken) in
     ap (λ (r : Refusal). answerReply (Refused r)) (c .early2 .ensures)
-    ∙ near-checked (ps s) (rows s) (a .z) (a .distance) (a .allowance) (fine (c .before .before .before .before .before)) (fits (c .before .before .before)) (sym (c .before .before .on-sheet .ensures) ∙ not-true _ (c .before .if2 .taken))
+    ∙ decided (k .before .before .before) (fine k) (fits (c .before .before .before)) off
 
 abbrev start : tie.Else2 → tie.Start
 start c = c .before .before .before .before .before .before .before
@@ -100,19 +116,20 @@ on : (c : tie.Else2) → onSheet (start c .args .z) ≡ true
 on c = sym (c .before .on-sheet .ensures) ∙ not-false _ (c .if2 .left)
 
 -- ---------------- where no check refused, the reply is that of the walk
+abbrev walks : tie.Start → ℤ → Walked Nothing
+walks s d = nearWalk LineA (ps s) (rows s) (s .args .z) d (fresh (s .args .allowance))
+
 answered : (c : tie.Else2) {w : Walked Nothing}
-    → w ≡ nearWalk LineA (ps (start c)) (rows (start c)) (start c .args .z) (start c .args .distance) (fresh (start c .args .allowance))
-    → yesOrNo (start c .args .allowance) w ≡ nearReply (ps (start c)) (rows (start c)) (start c .args .z) (start c .args .distance) (start c .args .allowance)
+    → w ≡ walks (start c) (start c .args .distance) → yesOrNo (start c .args .allowance) w ≡ reply (start c)
 answered c e =
-    let s = start c in
-    let a = s .args in
-    ap (yesOrNo (a .allowance)) e
-    ∙ near-checked (ps s) (rows s) (a .z) (a .distance) (a .allowance) (fine (c .before .before .before .before)) (fits (c .before .before)) (on c)
+    ap (yesOrNo (start c .args .allowance)) e
+    ∙ decided (start c) (fine (c .before .before .before .before)) (fits (c .before .before)) (on c)
 
 ask-any-requires : tie.Need-ask-any-requires
 ask-any-requires c κs =
     let k = c .before .before in
-    (lengths (k .before .before .before .before), on-sheet _ (T-true (on k)), stored-abs (distance-abs (start k .args .distance) (T-true (fits (k .before .before)))) tt)
+    let d = distance-abs (start k .args .distance) (T-true (fits (k .before .before))) in
+    (lengths (k .before .before .before .before), on-sheet _ (T-true (on k)), stored-abs d tt)
 
 answer-requires : tie.Need-answer-requires
 answer-requires c κs = search needs
@@ -121,9 +138,8 @@ returns-4 : tie.Need-returns-4
 returns-4 c =
     let k = c .before .before .before .before in
     let s = start k in
-    let a = s .args in
-    c .answer .ensures
-    ∙ answered k (c .before .ask-any .ensures LineA LineB ∙ ap (λ (d : ℤ). nearWalk LineA (ps s) (rows s) (a .z) d (fresh (a .allowance))) (toZ-ofZ {w = w64} (s .fits .distance)))
+    let d = toZ-ofZ {w = w64} (s .fits .distance) in
+    c .answer .ensures ∙ answered k (c .before .ask-any .ensures LineA LineB ∙ ap (walks s) d)
 
 pub near-spec : {M : Type 1} → statement M
 near-spec =

@@ -43,16 +43,20 @@ start c = c .before .before .before .before
 abbrev isFramed : tie.Start → Row → Bool
 isFramed s r = frameGood r (s .args .node .first) (s .args .node .last)
 
-frame-said : (c : tie.After-frame-good) → c .frame-good .result ≡ isFramed (start c) (rowAt (rows (start c)) (start c .args .node .row))
+abbrev row : tie.Start → Row
+row s = rowAt (rows s) (s .args .node .row)
+
+frame-said : (c : tie.After-frame-good) → c .frame-good .result ≡ isFramed (start c) (row (start c))
 frame-said c = c .frame-good .ensures ∙ ap (isFramed (start c)) (c .before .before .before .row-at .ensures)
 
-was-framed : (c : tie.Else1) → isFramed (start (c .before)) (rowAt (rows (start (c .before))) (start (c .before) .args .node .row)) ≡ true
+was-framed : (c : tie.Else1) → isFramed (start (c .before)) (row (start (c .before))) ≡ true
 was-framed c = sym (frame-said (c .before)) ∙ not-false _ (c .if1 .left)
 
 returns : tie.Need-returns
 returns c =
     let s = start (c .before) in
-    (λ l D e. frame-bad l (ps s) (rows s) (s .args .z) D (s .args .node) (s .pre .1) (sym (frame-said (c .before)) ∙ not-true _ (c .if1 .taken)), tt)
+    let bad = sym (frame-said (c .before)) ∙ not-true _ (c .if1 .taken) in
+    (λ l D e. frame-bad l (ps s) (rows s) (s .args .z) D (s .args .node) (s .pre .1) bad, tt)
 
 add-if2 : tie.Need-add-if2
 add-if2 c = search needs
@@ -64,10 +68,14 @@ strip-holds c =
     holds-start _ (n .first) (n .last) (sym (c .before .frame-good .ensures) ∙ not-false _ (c .if1 .left))
 
 start-on : (c : tie.Else1) → OnSheet (c .before .before .before .point-at .result)
-start-on c = subst OnSheet (sym (c .before .before .before .point-at .ensures)) (on-sheet _ (start (c .before) .pre .1 .start-on))
+start-on c =
+    let p = c .before .before .before .point-at in
+    subst OnSheet (sym (p .ensures)) (on-sheet _ (start (c .before) .pre .1 .start-on))
 
 end-on : (c : tie.Else1) → OnSheet (c .before .before .point-at2 .result)
-end-on c = subst OnSheet (sym (c .before .before .point-at2 .ensures)) (on-sheet _ (start (c .before) .pre .1 .end-on))
+end-on c =
+    let p = c .before .before .point-at2 in
+    subst OnSheet (sym (p .ensures)) (on-sheet _ (start (c .before) .pre .1 .end-on))
 
 visit-leaf-requires : tie.Need-visit-leaf-requires
 visit-leaf-requires c κs =
@@ -83,7 +91,8 @@ returns-2 c =
     let r = k .before .before .before .before .row-at .ensures in
     let a = k .before .before .before .point-at .ensures in
     let b = k .before .before .point-at2 .ensures in (
-      λ l D e. ap (visitOf l n) (c .visit-leaf .ensures .0 D (stored (s .pre .3) tt ∙ e) ∙ (λ i. leafSeen (r i) (a i) (b i) (s .args .z) D))
+      λ l D e. ap (visitOf l n)
+          (c .visit-leaf .ensures .0 D (stored (s .pre .3) tt ∙ e) ∙ (λ i. leafSeen (r i) (a i) (b i) (s .args .z) D))
           ∙ leaf-visit l (ps s) (rows s) (s .args .z) D n (s .pre .1) (was-framed k) (le-leb _ _ (c .before .if2 .taken)),
       c .visit-leaf .ensures .1 (n .first) (n .last),
     )
@@ -92,8 +101,15 @@ visit-inner-requires : tie.Need-visit-inner-requires
 visit-inner-requires c κs =
     let k = c .before in
     let p = start (k .before) .pre in
-    let h = p .0 in
-    (h .some-segment, omega (arith, h .points-in, h .fine .not-more, h .fine .some-points), strip-holds k, start-on k, end-on k, p .2, stored-abs (p .3) tt)
+    let h = p .0 in (
+      h .some-segment,
+      omega (arith, h .points-in, h .fine .not-more, h .fine .some-points),
+      strip-holds k,
+      start-on k,
+      end-on k,
+      p .2,
+      stored-abs (p .3) tt,
+    )
 
 returns-3 : tie.Need-returns-3
 returns-3 c =
@@ -103,7 +119,9 @@ returns-3 c =
     let r = k .before .before .before .before .row-at .ensures in
     let a = k .before .before .before .point-at .ensures in
     let b = k .before .before .point-at2 .ensures in (
-      λ l D e. ap (visitOf l n) (c .visit-inner .ensures .0 D (stored (s .pre .3) tt ∙ e) ∙ (λ i. innerSeen (r i) (n .first) (n .last) (a i) (b i) (s .args .z) D))
+      λ l D e. ap (visitOf l n)
+          (c .visit-inner .ensures .0 D (stored (s .pre .3) tt ∙ e)
+          ∙ (λ i. innerSeen (r i) (n .first) (n .last) (a i) (b i) (s .args .z) D))
           ∙ inner-visit l (ps s) (rows s) (s .args .z) D n (s .pre .1) (was-framed k) (s .pre .0) (lt-leb _ _ (c .before .if2 .left)),
       c .visit-inner .ensures .1,
     )

@@ -103,8 +103,11 @@ module _ (t : ℕ) where
   abbrev origin : Seen → Start
   origin c = c .before .before .before .before .before .before .before
 
+  abbrev sight : Opened → Seen
+  sight c = c .before .before .before
+
   abbrev begin : Opened → Start
-  begin c = origin (c .before .before .before)
+  begin c = origin (sight c)
 
   abbrev mid : Opened → ℕ
   mid c = c .before .mid .given .0 .0
@@ -142,7 +145,7 @@ module _ (t : ℕ) where
   counted c = c .before .before .before .before .counted .given .0 .0
 
   made : (c : Seen) → next (origin c .args .tally) ≡ Left (counted c)
-  made c = sym (c .before .before .before .before .before .before .visit .ensures) ∙ c .before .before .before .before .counted .given .1
+  made c = let k = c .before .before .before .before in sym (k .before .before .visit .ensures) ∙ k .counted .given .1
 
   -- how it comes to its end, and the same by the allowance of the tally that it began with, for that is kept
   abbrev comes : Seen → Line → Line → ℕ → Walked Nothing
@@ -156,7 +159,9 @@ module _ (t : ℕ) where
   seen c l D q {v} e =
       let s = origin c in
       let p = point-stored (s .pre .1 .2) in
-      ap (visitOf l (node s)) (sym e) ∙ c .visit2 .ensures .0 l D (reach s D q) ∙ (λ i. nearVisit l (ps s) (rows s) (p i) D (node s))
+      ap (visitOf l (node s)) (sym e)
+      ∙ c .visit2 .ensures .0 l D (reach s D q)
+      ∙ (λ i. nearVisit l (ps s) (rows s) (p i) D (node s))
 
   visit-requires : walk-lts.Need-visit-requires (claims t) (walk-at t) walk.Post
   visit-requires c κs = search needs
@@ -180,7 +185,9 @@ module _ (t : ℕ) where
       ∙ none-left (does s l D) (node s) tt y f (some-level s h) e
 
   visit-requires-2 : walk-lts.Need-visit-requires-2 (claims t) (walk-at t) walk.Post
-  visit-requires-2 c κs = let p = c .before .before .before .before .before .before .pre .1 in (p .0, p .1, stored-on (p .2), stored-abs (p .3) tt)
+  visit-requires-2 c κs =
+      let p = c .before .before .before .before .before .before .pre .1 in
+      (p .0, p .1, stored-on (p .2), stored-abs (p .3) tt)
 
   enum-told-2 : walk-lts.Need-enum-told-2 (claims t) (walk-at t) walk.Post
   enum-told-2 c = search needs
@@ -205,7 +212,9 @@ module _ (t : ℕ) where
 
   -- the split is an inner point
   inside : (c : Opened) → (begin c .args .first < mid c) × (mid c < begin c .args .last)
-  inside c = subst (SplitsBetween (begin c .args .first) (begin c .args .last)) (c .before .mid .given .1) (c .before .before .before .visit2 .ensures .1)
+  inside c =
+      let s = begin c in
+      subst (SplitsBetween (s .args .first) (s .args .last)) (c .before .mid .given .1) (sight c .visit2 .ensures .1)
 
   add-low : walk-lts.Need-add-low (claims t) (walk-at t) walk.Post
   add-low c = let r = row-small (begin c .pre .1 .0) in omega arith
@@ -220,7 +229,10 @@ module _ (t : ℕ) where
   on-sheet-requires c κs = search needs
 
   -- whether the split is on the sheet
-  on-said : (c : Asked) → c .on-sheet .result ≡ onSheet (point (ps (begin (c .before .before .before))) (mid (c .before .before .before)))
+  abbrev asking : Asked → Opened
+  asking c = c .before .before .before
+
+  on-said : (c : Asked) → c .on-sheet .result ≡ onSheet (point (ps (begin (asking c))) (mid (asking c)))
   on-said c = c .on-sheet .ensures ∙ ap (λ (p : Point). onSheet p) (c .before .point-at .ensures)
 
   -- the halves: the left, and the walk when what it comes to is known, with the right where it is over
@@ -230,13 +242,15 @@ module _ (t : ℕ) where
   abbrev right : Opened → Line → ℕ → ℤ → Nothing → Tally → Walked Nothing
   right c l f D k v = writtenWalk (does (begin c) l D) (pred f) (rightOf (node (begin c)) (mid c)) k v
 
-  after : (c : Opened) (l : Line) (f : ℕ) (D : ℤ) {w : Walked Nothing} → begin c .args .reach ≡ D *ℤ D → begin c .args .last ≤ f + begin c .args .first
-      → w ≡ writtenWalk (does (begin c) l D) (pred f) (left c) tt (counted (c .before .before .before))
+  after : (c : Opened) (l : Line) (f : ℕ) (D : ℤ) {w : Walked Nothing}
+      → begin c .args .reach ≡ D *ℤ D → begin c .args .last ≤ f + begin c .args .first
+      → w ≡ writtenWalk (does (begin c) l D) (pred f) (left c) tt (counted (sight c))
       → goOn w (right c l f D) ≡ walks (begin c) l f D
   after c l f D q h e =
       let s = begin c in
-      let w = c .before .before .before in
-      halved (does s l D) (node s) tt (s .args .tally) f (some-level s h) (made w) (seen w l D q (c .before .mid .given .1)) e
+      let w = sight c in
+      let v = seen w l D q (c .before .mid .given .1) in
+      halved (does s l D) (node s) tt (s .args .tally) f (some-level s h) (made w) v e
 
   -- ---------------- the split is off the sheet: the left child's row is bad
   low-small : (c : Opened) → begin c .args .row + 1 < 8193
@@ -249,17 +263,19 @@ module _ (t : ℕ) where
   returns-2 c l m f D q h =
       let o = c .before .before .before .before .before in
       let s = begin o in
-      let w = o .before .before .before in
+      let w = sight o in
       let i = inside o in
       let low = s .args .row + 1 in
       let small = low-small o in
       let off = sym (on-said (c .before .before)) ∙ not-true _ (c .before .if1 .taken) in
       let bad = end-bad l (ps s) (rows s) (z s) D (left o) off in
       let due-at = due (next (counted w)) (badRow + low) in
+      let stop = due-stops (next (counted w)) (badRow + low) (omega arith) (omega arith) in
       told w l m (c .bad-row-due .result)
       ∙ ap (comes w l m) (c .bad-row-due .ensures)
-      ∙ sym (stops tt tt l m (counted w .allowance) due-at (right o l f D) (due-stops (next (counted w)) (badRow + low) (omega arith) (omega arith)))
-      ∙ after o l f D q h (reads-bad-due tt tt l m (does s l D) (left o) tt (counted w) (pred f) (omega arith) low small bad)
+      ∙ sym (stops tt tt l m (counted w .allowance) due-at (right o l f D) stop)
+      ∙ after o l f D q h
+      (reads-bad-due tt tt l m (does s l D) (left o) tt (counted w) (pred f) (omega arith) low small bad)
 
   -- ---------------- it is on the sheet
   abbrev opened : LeftDue → Opened
@@ -272,7 +288,11 @@ module _ (t : ℕ) where
   sub-high c = let h = inside (opened c) in omega arith
 
   mul-high : walk-lts.Need-mul-high (claims t) (walk-at t) walk.Post
-  mul-high c = let o = opened c in let h = inside o in let k = split-small (begin o .pre .1 .0) (h .0) (h .1) in omega arith
+  mul-high c =
+      let o = opened c in
+      let h = inside o in
+      let k = split-small (begin o .pre .1 .0) (h .0) (h .1) in
+      omega arith
 
   add-high : walk-lts.Need-add-high (claims t) (walk-at t) walk.Post
   add-high c =
@@ -288,7 +308,8 @@ module _ (t : ℕ) where
       let s = begin (opened c) in
       let h = inside (opened c) in
       let p = s .pre .1 in
-      (omega (arith, s .pre .0), (left-stands (p .0) (h .0) (h .1), left-ends (p .1) (split-on c), stored-on (p .2), stored-abs (p .3) tt))
+      let ends = left-ends (p .1) (split-on c) in
+      (omega (arith, s .pre .0), (left-stands (p .0) (h .0) (h .1), ends, stored-on (p .2), stored-abs (p .3) tt))
 
   stopped-requires : walk-lts.Need-stopped-requires (claims t) (walk-at t) walk.Post
   stopped-requires c κs = search needs
@@ -296,11 +317,12 @@ module _ (t : ℕ) where
   -- the left half is walked: what is left to do is the walk
   after-left : (c : LeftWalked) (l m : Line) (f : ℕ) (D : ℤ) → begin (opened (c .before)) .args .reach ≡ D *ℤ D
       → begin (opened (c .before)) .args .last ≤ f + begin (opened (c .before)) .args .first
-      → goOn (comes (opened (c .before) .before .before .before) l m (c .walk .result)) (right (opened (c .before)) l f D) ≡ walks (begin (opened (c .before))) l f D
+      → goOn (comes (sight (opened (c .before))) l m (c .walk .result)) (right (opened (c .before)) l f D)
+      ≡ walks (begin (opened (c .before))) l f D
   after-left c l m f D q h =
       let o = opened (c .before) in
       let s = begin o in
-      let w = o .before .before .before in
+      let w = sight o in
       let i = inside o in
       let p = point-stored (s .pre .1 .2) in
       after o l f D q h
@@ -311,9 +333,10 @@ module _ (t : ℕ) where
   returns-3 c l m f D q h =
       let w = c .before .before in
       let o = opened (w .before) in
-      let v = o .before .before .before in
+      let v = sight o in
+      let stop = sym (c .before .stopped .ensures) ∙ c .if2 .taken in
       told v l m (w .walk .result)
-      ∙ sym (stops tt tt l m (counted v .allowance) (w .walk .result) (right o l f D) (sym (c .before .stopped .ensures) ∙ c .if2 .taken))
+      ∙ sym (stops tt tt l m (counted v .allowance) (w .walk .result) (right o l f D) stop)
       ∙ after-left w l m f D q h
 
   tally-in-requires : walk-lts.Need-tally-in-requires (claims t) (walk-at t) walk.Post
@@ -325,7 +348,8 @@ module _ (t : ℕ) where
       let s = begin (opened d) in
       let h = inside (opened d) in
       let p = s .pre .1 in
-      (omega (arith, s .pre .0), (right-stands (p .0) (h .0) (h .1), right-ends (p .1) (split-on d), stored-on (p .2), stored-abs (p .3) tt))
+      let ends = right-ends (p .1) (split-on d) in
+      (omega (arith, s .pre .0), (right-stands (p .0) (h .0) (h .1), ends, stored-on (p .2), stored-abs (p .3) tt))
 
   -- ---------------- what ends at the node
   returns-4 : walk-lts.Need-returns-4 (claims t) (walk-at t) walk.Post
@@ -366,13 +390,14 @@ module _ (t : ℕ) where
       let s = begin o in
       let i = inside o in
       let p = point-stored (s .pre .1 .2) in
-      let v = o .before .before .before in
+      let v = sight o in
       let y = c .before .tally-in .ensures in
+      let go = sym (c .before .before .before .stopped .ensures) ∙ c .before .before .if2 .left in
       told v l m (c .walk2 .result)
       ∙ ap (λ (x : Tally). cameTo tt tt l m (x .allowance) (c .walk2 .result)) (sym y)
       ∙ c .walk2 .ensures l m (pred f) D (reach s D q) (omega arith)
       ∙ (λ j. writtenWalk (nearVisit l (ps s) (rows s) (p j) D) (pred f) (rightOf (node s) (mid o)) tt (y j))
-      ∙ sym (goes tt tt l m (counted v .allowance) (w .walk .result) (right o l f D) (sym (c .before .before .before .stopped .ensures) ∙ c .before .before .if2 .left))
+      ∙ sym (goes tt tt l m (counted v .allowance) (w .walk .result) (right o l f D) go)
       ∙ after-left w l m f D q h
 
 pub +walk-spec : {M : Type 1} → statement M

@@ -30,11 +30,13 @@ returns : tie.Need-returns
 returns c l m =
     let s = c .before .before .before in
     let a = s .args in
-    let f = segmentsOf (a .points .now .now) in
+    let ps = a .points .now .now in
+    let f = segmentsOf ps in
     let z = point-stored (s .pre .1) in
     let d = stored (s .pre .0 .2) tt in
-    c .walk .ensures l m f (a .d) (stored (square-abs (stored-abs (s .pre .0 .2) tt)) tt ∙ (λ i. d i *ℤ d i)) (omega arith)
-    ∙ (λ j. walk (nearVisit l (a .points .now .now) (a .table .now .now) (z j) (a .d)) f (root (a .points .now .now)) tt (a .tally))
+    let reach = stored (square-abs (stored-abs (s .pre .0 .2) tt)) tt ∙ (λ i. d i *ℤ d i) in
+    c .walk .ensures l m f (a .d) reach (omega arith)
+    ∙ (λ j. walk (nearVisit l ps (a .table .now .now) (z j) (a .d)) f (root ps) tt (a .tally))
 
 pub ask-spec : {M : Type 1} → statement M
 ask-spec = tie.close (tie.spec sub-last mul-walk walk-requires returns)

@@ -22,7 +22,8 @@ returns c l m =
     let s = c .before .before .before .before in
     let a = s .args in
     let off = sym (c .before .before .ends-on-sheet .ensures) ∙ not-true _ (c .before .if1 .taken) in
-    ap (cameTo tt tt l m (a .tally .allowance)) (c .bad-row-due .ensures) ∙ root-bad l m (a .z) (a .d) (a .tally) (s .pre .0) off
+    ap (cameTo tt tt l m (a .tally .allowance)) (c .bad-row-due .ensures)
+    ∙ root-bad l m (a .z) (a .d) (a .tally) (s .pre .0) off
 
 ask-requires : tie.Need-ask-requires
 ask-requires c κs =
@@ -34,7 +35,8 @@ returns-2 : tie.Need-returns-2
 returns-2 c l m =
     let s = c .before .before .before .before in
     let a = s .args in
-    c .ask .ensures l m ∙ ap (λ (d : ℤ). nearWalk l (a .points .now .now) (a .table .now .now) (a .z) d (a .tally)) (stored (s .pre .2) tt)
+    c .ask .ensures l m
+    ∙ ap (λ (d : ℤ). nearWalk l (a .points .now .now) (a .table .now .now) (a .z) d (a .tally)) (stored (s .pre .2) tt)
 
 pub ask-any-spec : {M : Type 1} → statement M
 ask-any-spec = tie.close (tie.spec ends-on-sheet-requires bad-row-due-requires returns ask-requires returns-2)
