@@ -1,2 +1,3 @@
--- Laws of NEAR's visits.
+-- Laws of NEAR's visits, and that what one does it does by one outcome.
 pub mod Visits
+pub mod Unique
