@@ -21,13 +21,14 @@ use Rattle.print.proofs.Writing.{put-same, put-behind}
 use Rattle.desk.specs.Desk.{room, Desk, Turn, turn, saidBytes, bytesOf}
 use Rattle.desk.specs.Chunks.{Carry, keep, carryByte, printByte, carryChunk, printChunk, lastLine}
 use Rattle.desk.proofs.Chunks.{carry-append, print-append}
-use Rattle.turns.specs.declared.State.{State}
-use Rattle.turns.specs.declared.Turned.{Turned}
+use Rattle.store.specs.declared.State.{State}
+use Rattle.store.specs.declared.Turned.{Turned}
 use Rattle.counter.specs.declared.Fed.{Fed}
 use Rattle.turns.specs.Left.{Numbers, Slices, textLeft, lineLeft, byteLeft, chunkLeft, lastLeft}
 use Rattle.turns.specs.Carried.{deskOf, keptBytes, Lent, Bounds}
 use Rattle.counter.specs.Carried.{carryOf, Feeds, Finishes, Keeps}
-use Rattle.turns.specs.Turns.{heard, counted, Turns}
+use Rattle.turns.specs.Turns.{heard, Turns}
+use Rattle.store.specs.States.{counted}
 
 -- Nothing written leaves all as it was.
 pub put-none : (d : List ℕ) (at : ℕ) → Put d at [] d at

@@ -5,7 +5,7 @@ use Prim.Native.Nat.{ℕ}
 use Rattle.desk.specs.Program.{program}
 use Rattle.desk.specs.Chunks.{Carry, begun, printChunk, printChunks, joinAll}
 use Rattle.desk.proofs.Chunks.{cut-anyhow}
-use Rattle.turns.specs.declared.State.{State}
+use Rattle.store.specs.declared.State.{State}
 use Rattle.turns.specs.Left.{Slices}
 use Rattle.counter.specs.Carried.{carryOf}
 use Rattle.counter.specs.Runs.{Runs, ended, fed}

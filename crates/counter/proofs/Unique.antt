@@ -21,16 +21,17 @@ use Rattle.desk.specs.declared.Held.{Held}
 use Rattle.desk.specs.Desk.{Store, Desk, room, countText, turn}
 use Rattle.desk.specs.Chunks.{Carry, begun, carryByte}
 use Rattle.desk.specs.Kept.{storeIn, Stored}
-use Rattle.turns.specs.declared.State.{State}
-use Rattle.turns.specs.declared.Speech.{Speech}
-use Rattle.turns.specs.declared.Speech.the-variants.{Quiet, Says}
-use Rattle.turns.specs.declared.Turned.{Turned}
+use Rattle.store.specs.declared.State.{State}
+use Rattle.store.specs.declared.Speech.{Speech}
+use Rattle.store.specs.declared.Speech.the-variants.{Quiet, Says}
+use Rattle.store.specs.declared.Turned.{Turned}
 use Rattle.counter.specs.declared.Fed.{Fed}
-use Rattle.turns.specs.Left.{Both, Numbers, Slices, slices, pointLeft, storesLeft, recordLeft, textLeft, lineLeft, byteLeft, chunkLeft}
+use Rattle.turns.specs.Left.{Both, Numbers, Slices, slices, storesLeft, recordLeft, textLeft, lineLeft, byteLeft, chunkLeft}
 use Rattle.turns.specs.Carried.{keptBytes, Bounds}
 use Rattle.counter.specs.Carried.{carryOf, Feeds, Finishes}
-use Rattle.turns.specs.Turns.{heard, counted, Turns}
-use Rattle.turns.proofs.Stores.{points-counted}
+use Rattle.turns.specs.Turns.{heard, Turns}
+use Rattle.store.proofs.Stores.{points-counted}
+use Rattle.store.specs.States.{pointLeft, counted}
 use Rattle.counter.proofs.Carries.{pending-bytes}
 
 -- The sizes of the stores and of the text line that has not ended.

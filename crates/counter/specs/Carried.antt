@@ -5,11 +5,11 @@ use Prim.Native.Nat.{ℕ, _+_, _≤_}
 use lib.ListN.{length, take}
 use Rattle.print.specs.Put.{Put}
 use Rattle.desk.specs.Chunks.{Carry, keep, carryChunk, printChunk, printLast}
-use Rattle.turns.specs.declared.State.{State}
+use Rattle.store.specs.declared.State.{State}
 use Rattle.turns.specs.Left.{Numbers, Slices, lineLeft, chunkLeft, endLeft}
 use Rattle.turns.specs.Carried.{deskOf, keptBytes, Bounds}
-use Rattle.turns.specs.Turns.{withPending}
 use Rattle.counter.specs.declared.Fed.{Fed}
+use Rattle.store.specs.States.{withPending}
 
 -- the desk, with the bytes that are kept of the text line that has not ended
 abbrev pub carryOf : State → Slices → Carry

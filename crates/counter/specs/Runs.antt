@@ -2,7 +2,7 @@
 use mathlib.Core.List.{List, [], _∷_, _++_}
 use Prim.Native.Nat.{ℕ}
 use lib.ListN.{take}
-use Rattle.turns.specs.declared.State.{State}
+use Rattle.store.specs.declared.State.{State}
 use Rattle.counter.specs.declared.Fed.{Fed}
 use Rattle.turns.specs.Left.{Numbers, Slices}
 use Rattle.counter.specs.Carried.{Feeds, Finishes}

@@ -1,9 +1,9 @@
 // A byte of the input, and the bytes that a turn prints.
 use crate::Fed;
 use print::put_line;
-use turns::Speech;
-use turns::State;
-use turns::Turned;
+use store::Speech;
+use store::State;
+use store::Turned;
 use turns::turn_line;
 ghost use mathlib.Core.Path.{_≡_};
 ghost use mathlib.Core.List.{[], _∷_};

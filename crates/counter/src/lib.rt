@@ -6,7 +6,7 @@ use bytes::feed_byte;
 use bytes::print_turn;
 use desk::Held;
 use rules::Line;
-use turns::State;
+use store::State;
 use turns::turn_line;
 ghost use mathlib.Core.Path.{_≡_};
 ghost use Prim.Native.Nat.{_+_, _*_, _≤_, _<_, _^_};

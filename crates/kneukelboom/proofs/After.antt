@@ -7,7 +7,7 @@ use lib.ListN.{length-append}
 use Rattle.desk.specs.Chunks.{Carry, begun, carryChunk}
 use Rattle.desk.proofs.Chunks.{carry-append}
 use Rattle.desk.proofs.Begun.{begun-again}
-use Rattle.turns.specs.declared.State.{State}
+use Rattle.store.specs.declared.State.{State}
 use Rattle.counter.specs.declared.Fed.{Fed}
 use Rattle.turns.specs.Left.{Slices, chunkLeft}
 use Rattle.turns.specs.Carried.{Bounds}

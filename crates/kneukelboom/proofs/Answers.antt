@@ -11,7 +11,7 @@ use lib.ListN.{length, take, length-take, length-append}
 use lib.Seq.{take-all}
 use lib.Signed.{ltZ}
 use Rattle.io.specs.Counts.{clamped}
-use Rattle.turns.specs.declared.State.{State}
+use Rattle.store.specs.declared.State.{State}
 use Rattle.counter.specs.declared.Fed.{Fed}
 use Rattle.turns.specs.Left.{Numbers, Slices}
 use Rattle.counter.specs.Carried.{Feeds, Finishes}

@@ -4,7 +4,7 @@ use mathlib.Core.List.{List}
 use Prim.Native.Nat.{ℕ, zero, suc, _+_}
 use lib.IntN.{ℤ, pos, negsuc}
 use lib.ListN.{length, take}
-use Rattle.turns.specs.declared.State.{State}
+use Rattle.store.specs.declared.State.{State}
 use Rattle.turns.specs.Left.{Slices}
 use Rattle.counter.proofs.Unique.{Sized, feeds-unique, finishes-unique}
 use Rattle.kneukelboom.specs.declared.Past.{Past}

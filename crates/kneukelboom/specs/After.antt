@@ -8,7 +8,7 @@ use lib.ListN.{length, replicate}
 use Rattle.desk.specs.Desk.{room}
 use Rattle.desk.specs.Chunks.{begun, carryChunk}
 use Rattle.desk.specs.Kept.{tableRoom}
-use Rattle.turns.specs.declared.State.{State}
+use Rattle.store.specs.declared.State.{State}
 use Rattle.turns.specs.Left.{Slices, slices, chunkLeft}
 use Rattle.turns.specs.Carried.{keptBytes, Bounds}
 use Rattle.counter.specs.Carried.{carryOf}

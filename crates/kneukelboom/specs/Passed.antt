@@ -5,7 +5,7 @@ use mathlib.Core.List.{List, _++_}
 use Prim.Native.Nat.{ℕ, suc, _+_}
 use lib.IntN.{ℤ, pos, negsuc}
 use lib.ListN.{length, take}
-use Rattle.turns.specs.declared.State.{State}
+use Rattle.store.specs.declared.State.{State}
 use Rattle.turns.specs.Left.{Slices}
 use Rattle.counter.specs.Carried.{Feeds, Finishes}
 use Rattle.kneukelboom.specs.declared.Past.{Past}

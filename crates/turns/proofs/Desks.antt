@@ -15,11 +15,12 @@ use Rattle.words.specs.Records.{recordOf}
 use Rattle.print.specs.declared.Said.{Said}
 use Rattle.print.specs.Said.{saidReply}
 use Rattle.desk.specs.Desk.{Store, room, Desk, storeOf, putStore, Turn, quiet, saying, refusedAt, addPoint, turnOf, turn}
-use Rattle.turns.specs.declared.State.{State}
-use Rattle.turns.specs.declared.Turned.{Turned}
+use Rattle.store.specs.declared.State.{State}
+use Rattle.store.specs.declared.Turned.{Turned}
 use Rattle.turns.specs.Left.{Numbers, recordLeft, textLeft}
 use Rattle.turns.specs.Carried.{deskOf, Bounds}
-use Rattle.turns.specs.Turns.{withPoint, counted, started, quietly, sayingly, Ready, Turns}
+use Rattle.turns.specs.Turns.{Ready, Turns}
+use Rattle.store.specs.States.{withPoint, counted, started, quietly, sayingly}
 
 -- two states that differ in where points go and in what is held alone
 abbrev Same : State → State → Type 0

@@ -1,3 +1,2 @@
--- Points behind points, and turns of the desk.
-pub mod Stores
+-- Turns of the desk.
 pub mod Desks

@@ -7,7 +7,7 @@ use lib.ListN.{length}
 use Rattle.words.specs.Records.{longest}
 use Rattle.desk.specs.Desk.{room, Desk}
 use Rattle.desk.specs.Kept.{storeIn, tableRoom}
-use Rattle.turns.specs.declared.State.{State}
+use Rattle.store.specs.declared.State.{State}
 
 -- the desk, with the numbers of the two stores
 abbrev pub deskOf : State → List ℤ → List ℤ → Desk

@@ -2,8 +2,8 @@
 -- that has not ended.
 use mathlib.Core.Bool.{cond}
 use mathlib.Core.List.{List, [], _∷_}
-use Prim.Native.Nat.{ℕ, _+_, _*_}
-use lib.Dec.{eqb, leb, ltb}
+use Prim.Native.Nat.{ℕ}
+use lib.Dec.{eqb, leb}
 use lib.IntN.{ℤ}
 use lib.ListN.{length, set}
 use Rattle.rules.specs.declared.Line.{Line}
@@ -13,9 +13,10 @@ use Rattle.words.specs.declared.Record.{Record}
 use Rattle.words.specs.declared.Record.the-variants.{Start, Pt, Near, In, Meet, Agree, NotUnderstood}
 use Rattle.words.specs.Fields.{lineFeed}
 use Rattle.words.specs.Records.{longest, recordOf}
-use Rattle.desk.specs.Desk.{Desk, room, countText}
+use Rattle.desk.specs.Desk.{Desk, countText}
 use Rattle.desk.specs.Chunks.{Carry, carryByte}
 use Rattle.answers.specs.Left.{tableAfter, secondAfter}
+use Rattle.store.specs.States.{pointLeft}
 
 -- ---- the numbers of the two lines, in their stores or in their tables
 pub record Both : Type 0 where
@@ -40,11 +41,7 @@ pub record Slices : Type 0 where
 abbrev pub slices : List ℤ → List ℤ → List ℤ → List ℤ → List ℕ → Slices
 slices a b tableA tableB line = record { numbers = numbers a b tableA tableB; line = line }
 
--- ---- a point is written behind the points of a store, and past the 257th nothing is
-unfoldable pub pointLeft : ℕ → List ℤ → ℤ → ℤ → List ℤ
-pointLeft count store x y = cond (ltb count room) (set (set store (2 * count) x) (2 * count + 1) y) store
-
--- in the store of the line that points go to
+-- ---- a point is written in the store of the line that points go to
 abbrev pub storesLeft : Desk → Line → Both → ℤ → ℤ → Both
 storesLeft d NoLine s x y = s
 storesLeft d LineA s x y = both (pointLeft (pointsOf (d .a .points)) (s .a) x y) (s .b)

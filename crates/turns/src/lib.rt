@@ -1,12 +1,7 @@
 // What a text line comes to, on slices: a point stored, a question answered over the two stores, a refusal. `turn_line` says it by
 // the definitions of `desk`, and what every lent slice holds afterwards.
-mod points;
 mod questions;
-mod states;
 
-use desk::Held;
-use points::ROOM;
-use points::add_point;
 use print::Said;
 use print::of_refusal;
 use questions::agree_turn;
@@ -15,10 +10,14 @@ use questions::meet_turn;
 use questions::near_turn;
 use rules::Line;
 use rules::Refusal;
-use states::counted;
-use states::quiet;
-use states::saying;
-use states::started;
+use store::ROOM;
+use store::State;
+use store::Turned;
+use store::add_point;
+use store::counted;
+use store::quiet;
+use store::saying;
+use store::started;
 use words::Record;
 use words::record_of;
 ghost use mathlib.Core.Path.{_≡_};
@@ -28,30 +27,8 @@ ghost use Rattle.print.specs.Said.{saidReply};
 ghost use Rattle.desk.specs.Desk.{room, refusedAt, takePoint, turnOf, turn};
 ghost use Rattle.turns.specs.Left.{both, numbers, storesLeft, recordLeft, textLeft};
 ghost use Rattle.turns.specs.Carried.{deskOf, Lent, Bounds};
-ghost use Rattle.turns.specs.Turns.{Ready, counted, Turns};
-
-// What is carried beside the lent slices: where points go, how the two lines are held, the text lines read, the lines
-// printed, and the bytes kept of the text line that has not ended.
-pub struct State {
-    pub target: Line,
-    pub a: Held,
-    pub b: Held,
-    pub read: usize,
-    pub printed: u64,
-    pub pending: usize,
-}
-
-// What a text line makes the program say.
-pub enum Speech {
-    Quiet,
-    Says(Said),
-}
-
-// What a text line comes to.
-pub struct Turned {
-    pub state: State,
-    pub speech: Speech,
-}
+ghost use Rattle.turns.specs.Turns.{Ready, Turns};
+ghost use Rattle.store.specs.States.{counted};
 
 // A refusal of the program: its place is the text line.
 fn refused(number: u32, line: Line, place: usize) -> Said

@@ -1,12 +1,12 @@
 // The turns of the questions: each says its reply, and leaves its tables as they are readied.
-use crate::State;
-use crate::Turned;
-use crate::states::saying;
 use answers::agree_said;
 use answers::inside_said;
 use answers::meet_said;
 use answers::near_said;
 use rules::Point;
+use store::State;
+use store::Turned;
+use store::saying;
 use whole::wide;
 use words::Record;
 ghost use mathlib.Core.Path.{_≡_};

@@ -5,7 +5,7 @@ use Prim.Native.Nat.{ℕ, _-_, _^_, _<_}
 use native.Mathlib.Omega.{arith}
 use lib.ListN.{length}
 use lib.Seq.{length-take-le}
-use Rattle.turns.specs.declared.State.{State}
+use Rattle.store.specs.declared.State.{State}
 use Rattle.turns.specs.Left.{Slices, slices}
 use borrow.Author.Needs.{needs}
 use Rattle.kneukelboom.specs.After.{zeros, AfterBytes}

@@ -9,10 +9,10 @@ use Rattle.rules.specs.declared.Line.{Line}
 use Rattle.rules.specs.declared.Line.the-variants.{LineA, LineB}
 use Rattle.rules.specs.Sheet.{pointsOf}
 use Rattle.desk.specs.Desk.{Desk, putStore, Turn, saying, takePoint}
-use Rattle.turns.specs.Left.{Both, both, pointLeft, storesLeft}
+use Rattle.turns.specs.Left.{Both, both, storesLeft}
 use Rattle.turns.specs.Carried.{deskOf}
-use Rattle.turns.specs.Turns.{withPoint, withA, withB}
-use Rattle.turns.proofs.Stores.{points-counted}
+use Rattle.store.specs.States.{pointLeft, withPoint, withA, withB}
+use Rattle.store.proofs.Stores.{points-counted}
 use Rattle.turns.proofs.Desks.{saying-turns, stored-turns, past-turns}
 use borrow.Author.Needs.{needs}
 use Rattle.turns.proofs.take_point.Statement.{statement}

@@ -8,10 +8,11 @@ use mir.Facts.{toZ-ofZ}
 use Rattle.words.specs.declared.Record.{Record}
 use Rattle.words.specs.declared.Record.the-variants.{Pt, Near, In, Agree, NotUnderstood}
 use Rattle.desk.specs.Desk.{Desk, saying, turnOf}
-use Rattle.turns.specs.declared.Turned.{Turned}
+use Rattle.store.specs.declared.Turned.{Turned}
 use Rattle.turns.specs.Left.{Both, Numbers, numbers, recordLeft}
 use Rattle.turns.specs.Carried.{deskOf}
-use Rattle.turns.specs.Turns.{quietly, Turns}
+use Rattle.turns.specs.Turns.{Turns}
+use Rattle.store.specs.States.{quietly}
 use Rattle.turns.proofs.Desks.{turns-same, asked-turns, start-turns}
 use borrow.Author.Needs.{needs}
 use Rattle.turns.proofs.turn_record.Statement.{statement}

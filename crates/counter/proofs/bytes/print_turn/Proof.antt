@@ -4,7 +4,7 @@ use mathlib.Core.List.{List}
 use Prim.Native.Nat.{ℕ}
 use Rattle.print.proofs.Writing.{put-same}
 use Rattle.desk.specs.Desk.{saidBytes}
-use Rattle.turns.specs.declared.Speech.{Speech}
+use Rattle.store.specs.declared.Speech.{Speech}
 use Rattle.turns.specs.Turns.{heard}
 use Rattle.counter.proofs.Carries.{put-none}
 use borrow.Author.Needs.{needs}

@@ -4,10 +4,10 @@ use lib.ListN.{length-set}
 use mathlib.Core.Path.{_≡_}
 use mir.Syntax.{w32}
 use mir.Val.{toZ, ofZ}
-use Rattle.turns.proofs.Stores.{left-behind, left-past, point-stored, point-past}
+use Rattle.store.proofs.Stores.{left-behind, left-past, point-stored, point-past}
 use borrow.Author.Needs.{needs}
-use Rattle.turns.proofs.points.add_point.Statement.{statement}
-use Rattle.turns.proofs.points.add_point.Tie as tie
+use Rattle.store.proofs.add_point.Statement.{statement}
+use Rattle.store.proofs.add_point.Tie as tie
 
 mul-x : tie.Need-mul-x
 mul-x c = search needs

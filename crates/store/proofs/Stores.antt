@@ -13,8 +13,7 @@ use Rattle.rules.specs.Sheet.{pointsOf}
 use Rattle.desk.specs.declared.Held.{Held}
 use Rattle.desk.specs.Desk.{Store, room}
 use Rattle.desk.specs.Kept.{storeIn, Stored}
-use Rattle.turns.specs.Left.{pointLeft}
-use Rattle.turns.specs.Turns.{withPoint}
+use Rattle.store.specs.States.{pointLeft, withPoint}
 
 -- Two numbers that are set behind the first 2k stand behind them.
 set-behind : (xs : List ℤ) (k : ℕ) (x y : ℤ) → 2 * k + 1 < length xs →

@@ -1,9 +1,9 @@
 -- `started` goes by the line, as its definition does.
+use Rattle.store.specs.States.{started}
 use mathlib.Core.Path.{sym, _∙_, ap}
-use Rattle.turns.specs.Turns.{started}
 use borrow.Author.Needs.{needs}
-use Rattle.turns.proofs.states.started.Statement.{statement}
-use Rattle.turns.proofs.states.started.Tie as tie
+use Rattle.store.proofs.started.Statement.{statement}
+use Rattle.store.proofs.started.Tie as tie
 
 enum-told : tie.Need-enum-told
 enum-told c = search needs

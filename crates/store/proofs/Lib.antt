@@ -1,0 +1,2 @@
+-- Points behind points.
+pub mod Stores

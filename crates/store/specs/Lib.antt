@@ -1,0 +1,2 @@
+-- What the contracts of `store` are said with.
+pub mod States
