@@ -12,7 +12,7 @@ use Rattle.rules.specs.Sheet.{point}
 use Rattle.rules.specs.Tree.{least, greatest, measured}
 use Rattle.built.proofs.Rows.{≤-or->}
 use Rattle.built.proofs.Extents.{least-below, greatest-above, least-all, greatest-all}
-use Rattle.build.specs.Run.{withBox, joined}
+use Rattle.build.specs.Rows.{withBox, joined}
 
 module _ (R : ℤ → ℤ → Type 0)
     (trans : (a b c : ℤ) → R a b → R b c → R a c)

@@ -12,7 +12,7 @@ use Rattle.rules.specs.Plane.{step, direction, size²}
 use Rattle.rules.specs.Sheet.{point}
 use Rattle.rules.specs.Tree.{nodeC, nodeT, least, greatest, measured, noSplit}
 use Rattle.visits.proofs.Terms.{c-start, t-start}
-use Rattle.build.proofs.Ends.{c-end, t-end}
+use Rattle.run.proofs.Ends.{c-end, t-end}
 
 -- the row of a leaf with this square and box
 abbrev pub leafRow : ℕ → ℕ → ℤ → ℤ → ℤ → ℤ → ℤ → Row

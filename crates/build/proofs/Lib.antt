@@ -1,7 +1,4 @@
 -- Laws that the proofs of `build` share.
-pub mod Points
-pub mod Ends
-pub mod SoFar
 pub mod Numbers
 pub mod Lowest
 pub mod Leaf

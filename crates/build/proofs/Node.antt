@@ -18,8 +18,9 @@ use Rattle.built.specs.RowRange.{RowRange, AllFit}
 use Rattle.built.proofs.Rows.{leaf-rows, inner-rows, leaf-or-inner, leaf-front, inner-front}
 use Rattle.built.proofs.Part.{part-point, standing, split-part, measured-part}
 use Rattle.built.proofs.Narrow.{measured-range, numbers-fit}
-use Rattle.build.specs.declared.run.Measured.{Measured}
-use Rattle.build.specs.Run.{AllOnSheet, measureOf, nodeRow, unboxed}
+use Rattle.run.specs.declared.Measured.{Measured}
+use Rattle.run.specs.Run.{AllOnSheet, measureOf}
+use Rattle.build.specs.Rows.{nodeRow, unboxed}
 
 -- the row of a run from first to last but for its box, by what is measured of it
 abbrev pub rowOf : ℕ → ℕ → ℤ → Measured → Row

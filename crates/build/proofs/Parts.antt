@@ -10,7 +10,7 @@ use lib.Seq.{take-at, drop-at, drop-drop, length-take-le, drop-length, take-leng
 use Rattle.rules.specs.declared.Row.{Row}
 use Rattle.rules.specs.Tree.{width, numbers, rowAt, rowCount}
 use Rattle.built.proofs.Rows.{row-front}
-use Rattle.build.specs.Run.{unboxed, joined, rowFrom, boxedBy}
+use Rattle.build.specs.Rows.{unboxed, joined, rowFrom, boxedBy}
 
 -- what a list is after its part from a on, of n numbers, was lent and came back as y
 abbrev pub returned : ℕ → ℕ → List ℤ → List ℤ → List ℤ

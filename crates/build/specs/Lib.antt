@@ -1,2 +1,2 @@
 -- What the contracts of `build` are said with.
-pub mod Run
+pub mod Rows

@@ -2,7 +2,6 @@
 // the rows stay unchanged.
 mod checks;
 mod rows;
-mod run;
 
 use rules::Built;
 ghost use mathlib.Core.Path.{_≡_};

@@ -1,10 +1,10 @@
 // The rows of a run of points, in preorder.
-use crate::run::measure;
 use line::greater;
 use line::lesser;
 use line::point_at;
 use line::size2;
 use line::step;
+use run::measure;
 use whole::wide;
 ghost use mathlib.Core.Path.{_≡_};
 ghost use mathlib.Core.List.{[], _∷_, _++_};
@@ -13,7 +13,8 @@ ghost use lib.ListN.{length, drop};
 ghost use Rattle.whole.specs.Order.{minZ, maxZ};
 ghost use Rattle.rules.specs.Tree.{splitOf, width, numbers, rowsOf, rowCount};
 ghost use Rattle.built.specs.RowRange.{AllFit};
-ghost use Rattle.build.specs.Run.{AllOnSheet, nodeRow, unboxed, boxedBy, setBy};
+ghost use Rattle.run.specs.Run.{AllOnSheet};
+ghost use Rattle.build.specs.Rows.{nodeRow, unboxed, boxedBy, setBy};
 
 // The numbers of a row.
 pub const WIDTH: usize = 11;

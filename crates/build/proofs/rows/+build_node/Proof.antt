@@ -8,7 +8,7 @@ use lib.IntN.{ℤ}
 use lib.ListN.{length, take, drop}
 use Rattle.rules.specs.Tree.{width, numbers, rowsOf, rowCount}
 use Rattle.built.proofs.Rows.{split-between, count-rows}
-use Rattle.build.specs.Run.{nodeRow, unboxed, joined}
+use Rattle.build.specs.Rows.{nodeRow, unboxed, joined}
 use Rattle.build.proofs.Node.{leaf-level, inner-level, first-row}
 use Rattle.build.proofs.Boxes.{joined-same}
 use Rattle.build.proofs.Parts.{returned, three-parts, boxed-parts, row-room, left-count, all-count, left-room}

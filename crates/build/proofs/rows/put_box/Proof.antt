@@ -9,7 +9,7 @@ use lib.ListN.{length, getD, drop, set}
 use lib.Seq.{drop-cons, drop-set-lt, sets}
 use Rattle.whole.specs.Order.{minZ, maxZ}
 use Rattle.rules.specs.Tree.{width, numbers, rowAt}
-use Rattle.build.specs.Run.{boxedBy, setBy}
+use Rattle.build.specs.Rows.{boxedBy, setBy}
 use borrow.Author.Needs.{needs}
 use Rattle.build.proofs.rows.put_box.Statement.{statement}
 use Rattle.build.proofs.rows.put_box.Tie as tie

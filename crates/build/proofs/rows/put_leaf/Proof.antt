@@ -15,7 +15,7 @@ use Rattle.rules.specs.Tree.{width, numbers, measured, noSplit}
 use Rattle.visits.specs.Small.{OnSheet, Small}
 use Rattle.visits.proofs.Sizes.{step-small}
 use Rattle.built.specs.RowRange.{AllFit}
-use Rattle.build.proofs.Points.{read-on}
+use Rattle.run.proofs.Points.{read-on}
 use Rattle.build.proofs.Numbers.{wides-same}
 use Rattle.build.proofs.Leaf.{leafRow, leaf-measured}
 use Rattle.build.proofs.Node.{row-fits, leaf-row}

@@ -9,8 +9,8 @@ use Rattle.rules.specs.declared.Row.{Row}
 use Rattle.rules.specs.Tree.{width, numbers, splitOf, measured}
 use Rattle.built.specs.RowRange.{AllFit}
 use Rattle.built.proofs.Rows.{split-between}
-use Rattle.build.specs.declared.run.Measured.{Measured}
-use Rattle.build.specs.Run.{unboxed}
+use Rattle.run.specs.declared.Measured.{Measured}
+use Rattle.build.specs.Rows.{unboxed}
 use Rattle.build.proofs.Numbers.{wides-same}
 use Rattle.build.proofs.Node.{rowOf, run-segments, run-on, run-row, run-split, strip-fits, inner-row}
 use borrow.Author.Needs.{needs}

@@ -12,8 +12,8 @@ use Rattle.whole.specs.Range.{Abs≤, nil, _&_, abs-neg, fits}
 use Rattle.whole.specs.Machine.{MExpr, lit, rd, _⊖_, in-abs, safe-step, reads, nat-cast}
 use Rattle.visits.specs.Small.{widest}
 use borrow.Author.Needs.{needs}
-use Rattle.build.proofs.run.height.Statement.{statement}
-use Rattle.build.proofs.run.height.Tie as tie
+use Rattle.run.proofs.height.Statement.{statement}
+use Rattle.run.proofs.height.Tie as tie
 
 abbrev formula : MExpr → MExpr
 formula v = rd w64 (lit (pos 0) ⊖ v)

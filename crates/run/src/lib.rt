@@ -13,7 +13,7 @@ ghost use Rattle.whole.specs.Range.{Abs≤};
 ghost use Rattle.rules.specs.Plane.{cAt, tAt};
 ghost use Rattle.rules.specs.Sheet.{segmentsOf};
 ghost use Rattle.visits.specs.Small.{OnSheet, Small, widest};
-ghost use Rattle.build.specs.Run.{AllOnSheet, spanOf, spanWith, topWith, startOf, measuredWith, measureOf};
+ghost use Rattle.run.specs.Run.{AllOnSheet, spanOf, spanWith, topWith, startOf, measuredWith, measureOf};
 
 // The least and the greatest of some numbers.
 pub struct Span {

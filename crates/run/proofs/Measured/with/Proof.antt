@@ -5,10 +5,10 @@ use mir.Syntax.{w64}
 use Rattle.whole.specs.Range.{abs-at}
 use Rattle.whole.specs.Machine.{result}
 use Rattle.visits.proofs.Sizes.{c-wide}
-use Rattle.build.specs.Run.{spanWith, topWith}
+use Rattle.run.specs.Run.{spanWith, topWith}
 use borrow.Author.Needs.{needs}
-use Rattle.build.proofs.run.Measured.with.Statement.{statement}
-use Rattle.build.proofs.run.Measured.with.Tie as tie
+use Rattle.run.proofs.Measured.with.Statement.{statement}
+use Rattle.run.proofs.Measured.with.Tie as tie
 
 c-at-requires : tie.Need-c-at-requires
 c-at-requires c κs = search needs

@@ -6,8 +6,8 @@ use mir.Facts.{toZ-ofZ}
 use Rattle.whole.specs.Order.{minZ, maxZ}
 use Rattle.whole.specs.Machine.{result}
 use borrow.Author.Needs.{needs}
-use Rattle.build.proofs.run.Span.with.Statement.{statement}
-use Rattle.build.proofs.run.Span.with.Tie as tie
+use Rattle.run.proofs.Span.with.Statement.{statement}
+use Rattle.run.proofs.Span.with.Tie as tie
 
 lesser-requires : tie.Need-lesser-requires
 lesser-requires c κs = search needs

@@ -8,7 +8,7 @@ use Rattle.rules.specs.declared.Point.{Point}
 use Rattle.rules.specs.Sheet.{point, pointsOf}
 use Rattle.visits.specs.Small.{OnSheet}
 use Rattle.visits.proofs.OnSheets.{on-sheet}
-use Rattle.build.specs.Run.{AllOnSheet}
+use Rattle.run.specs.Run.{AllOnSheet}
 
 pub read-on : (q : List ℤ) → AllOnSheet q → (i : ℕ) → i < pointsOf q → {p : Point} → p ≡ point q i → OnSheet p
 read-on q h i l e = subst OnSheet (sym e) (on-sheet (point q i) (T-true (h i l)))

@@ -1,7 +1,7 @@
 -- `start`: each span by one call.
 use borrow.Author.Needs.{needs}
-use Rattle.build.proofs.run.Measured.start.Statement.{statement}
-use Rattle.build.proofs.run.Measured.start.Tie as tie
+use Rattle.run.proofs.Measured.start.Statement.{statement}
+use Rattle.run.proofs.Measured.start.Tie as tie
 
 of-requires : tie.Need-of-requires
 of-requires c κs = search needs

@@ -16,10 +16,10 @@ use Rattle.rules.specs.Sheet.{point, segmentsOf}
 use Rattle.rules.specs.Tree.{nodeC, nodeT, least, greatest, height, offMiddle, better, best, splitOf, measured}
 use Rattle.visits.proofs.Terms.{c-start, t-start}
 use Rattle.built.proofs.Rows.{≤-or->}
-use Rattle.build.specs.declared.run.Top.{Top}
-use Rattle.build.specs.declared.run.Measured.{Measured}
-use Rattle.build.specs.Run.{startOf, spanWith, measuredWith, measureOf}
-use Rattle.build.proofs.Ends.{c-end}
+use Rattle.run.specs.declared.Top.{Top}
+use Rattle.run.specs.declared.Measured.{Measured}
+use Rattle.run.specs.Run.{startOf, spanWith, measuredWith, measureOf}
+use Rattle.run.proofs.Ends.{c-end}
 
 -- the best of the points 0 to i, the first point among them
 unfoldable pub topSoFar : List ℤ → ℕ → ℕ → ℕ

@@ -8,12 +8,12 @@ use Rattle.rules.specs.Sheet.{point, segmentsOf}
 use Rattle.rules.specs.Tree.{nodeC, nodeT}
 use Rattle.visits.specs.Small.{Small}
 use Rattle.visits.proofs.Sizes.{direction-small}
-use Rattle.build.specs.declared.run.Measured.{Measured}
-use Rattle.build.specs.Run.{measuredWith}
-use Rattle.build.proofs.Points.{read-on}
-use Rattle.build.proofs.SoFar.{soFar, top-below, so-far-start, so-far-more, so-far-all}
-use Rattle.build.proofs.run.measure.Statement.{statement}
-use Rattle.build.proofs.run.measure.Tie as tie
+use Rattle.run.specs.declared.Measured.{Measured}
+use Rattle.run.specs.Run.{measuredWith}
+use Rattle.run.proofs.Points.{read-on}
+use Rattle.run.proofs.SoFar.{soFar, top-below, so-far-start, so-far-more, so-far-all}
+use Rattle.run.proofs.measure.Statement.{statement}
+use Rattle.run.proofs.measure.Tie as tie
 
 abbrev Inv-loop : tie.InvT-loop
 Inv-loop run last s u m₀ i₀ m i = (i ≤ last) × (m ≡ soFar run last i)

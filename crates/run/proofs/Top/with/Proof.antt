@@ -7,11 +7,11 @@ use native.Mathlib.Omega.{arith}
 use borrow.Author.Tests.{lt-ltb, le-ltb, eq-eqb, ne-eqb}
 use lib.Dec.{ltb, eqb}
 use Rattle.rules.specs.Tree.{offMiddle}
-use Rattle.build.specs.declared.run.Top.{Top}
-use Rattle.build.specs.Run.{higher, topWith}
+use Rattle.run.specs.declared.Top.{Top}
+use Rattle.run.specs.Run.{higher, topWith}
 use borrow.Author.Needs.{needs}
-use Rattle.build.proofs.run.Top.with.Statement.{statement}
-use Rattle.build.proofs.run.Top.with.Tie as tie
+use Rattle.run.proofs.Top.with.Statement.{statement}
+use Rattle.run.proofs.Top.with.Tie as tie
 
 module _ (last : ℕ) (top : Top) (i h : ℕ) where
   taken : higher last (top .split) (top .height) i h ≡ true → record { split = i; height = h } ≡ topWith last top i h

@@ -1,0 +1,49 @@
+-- The row of a node, and its box, which is written last.
+use mathlib.Core.Bool.{cond}
+use mathlib.Core.List.{List, _++_}
+use Prim.Native.Nat.{ℕ}
+use lib.IntN.{ℤ, pos}
+use lib.ListN.{getD, drop, set}
+use Rattle.whole.specs.Order.{minZ, maxZ}
+use Rattle.rules.specs.declared.Row.{Row}
+use Rattle.rules.specs.Tree.{splitOf, width, numbers, rowAt, measured, noSplit, isLeaf}
+
+-- ---- the row of the node that covers the points first to last
+abbrev pub nodeRow : List ℤ → ℕ → ℕ → Row
+nodeRow ps first last = measured ps first last (cond (isLeaf first last) noSplit (pos (splitOf ps first last)))
+
+-- ---- its box, which is written once its halves have theirs
+-- row r with another box
+abbrev pub withBox : Row → ℤ → ℤ → ℤ → ℤ → Row
+withBox r xmin xmax ymin ymax = record {
+  first = r .first;
+  last = r .last;
+  split = r .split;
+  cmin = r .cmin;
+  cmax = r .cmax;
+  tmin = r .tmin;
+  tmax = r .tmax;
+  xmin = xmin;
+  xmax = xmax;
+  ymin = ymin;
+  ymax = ymax;
+}
+
+abbrev pub unboxed : Row → Row
+unboxed r = withBox r (pos 0) (pos 0) (pos 0) (pos 0)
+
+-- with the box of two halves
+abbrev pub joined : Row → Row → Row → Row
+joined r a b = withBox r (minZ (a .xmin) (b .xmin)) (maxZ (a .xmax) (b .xmax)) (minZ (a .ymin) (b .ymin)) (maxZ (a .ymax) (b .ymax))
+
+-- the row that stands n numbers on
+abbrev pub rowFrom : ℕ → List ℤ → Row
+rowFrom n t = rowAt (drop n t) 0
+
+-- the table whose front row has the box of its halves, whose rows stand next and at right
+abbrev pub boxedBy : ℕ → List ℤ → List ℤ
+boxedBy right t = numbers (joined (rowFrom 0 t) (rowFrom width t) (rowFrom right t)) ++ drop width t
+
+-- number k of the front row alone, set to the choice of number k of those two rows
+abbrev pub setBy : (ℤ → ℤ → ℤ) → ℕ → ℕ → List ℤ → List ℤ
+setBy pick right k t = set t k (pick (getD (drop width t) k (pos 0)) (getD (drop right t) k (pos 0)))

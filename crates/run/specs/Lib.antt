@@ -1,0 +1,2 @@
+-- What the contracts of `run` are said with.
+pub mod Run
