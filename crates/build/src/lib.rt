@@ -1,8 +1,8 @@
 // The builder: the rows of a line's strip tree, written into a lent table. A refused build writes nothing, and numbers past
 // the rows stay unchanged.
-mod checks;
 mod rows;
 
+use build_checks::check;
 use rules::Built;
 ghost use mathlib.Core.Path.{_≡_};
 ghost use Rattle.rules.specs.Build.{buildRefusal, builtTable};
@@ -12,7 +12,7 @@ pub fn build(points: &[i32], table: &mut [i32]) -> Built
     ensures { λ r. ⌜ builtRefusal r ≡ buildRefusal (now (points .entry)) (now (table .entry)) ⌝ }
     ensures { λ _. ⌜ now (table .exit) ≡ builtTable (now (points .entry)) (now (table .entry)) ⌝ }
 {
-    let checked = checks::check(points, table.len());
+    let checked = check(points, table.len());
     if let Built::Refused(refusal) = checked {
         return Built::Refused(refusal);
     }

@@ -1,4 +1,5 @@
 // The rows of a run of points, in preorder.
+use build_checks::WIDTH;
 use line::greater;
 use line::lesser;
 use line::point_at;
@@ -15,9 +16,6 @@ ghost use Rattle.rules.specs.Tree.{splitOf, width, numbers, rowsOf, rowCount};
 ghost use Rattle.built.specs.RowRange.{AllFit};
 ghost use Rattle.run.specs.Run.{AllOnSheet};
 ghost use Rattle.build.specs.Rows.{nodeRow, unboxed, boxedBy, setBy};
-
-// The numbers of a row.
-pub const WIDTH: usize = 11;
 
 // Writes the numbers of a row at the front of the table.
 fn put_numbers(

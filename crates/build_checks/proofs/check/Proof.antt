@@ -15,8 +15,8 @@ use Rattle.rules.specs.Tree.{width, rowCount}
 use Rattle.rules.specs.Reply.{Check, firstRefusal, builtRefusal}
 use Rattle.rules.specs.Build.{lowest, offSheet, equalNext, buildRefusal}
 use borrow.Author.Needs.{needs}
-use Rattle.build.proofs.checks.check.Statement.{statement}
-use Rattle.build.proofs.checks.check.Tie as tie
+use Rattle.build_checks.proofs.check.Statement.{statement}
+use Rattle.build_checks.proofs.check.Tie as tie
 
 -- what six tests come to, where i is the place of 4 and j that of 5
 abbrev said : Bool → ℕ → ℕ → Check

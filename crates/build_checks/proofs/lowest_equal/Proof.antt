@@ -7,9 +7,9 @@ use native.Mathlib.Omega.{arith}
 use Rattle.rules.specs.Plane.{samePoint}
 use Rattle.rules.specs.Sheet.{point}
 use Rattle.rules.specs.Build.{lowest, equalNext}
-use Rattle.build.proofs.Lowest.{lowest-none, lowest-here, lowest-on}
-use Rattle.build.proofs.checks.lowest_equal.Statement.{statement}
-use Rattle.build.proofs.checks.lowest_equal.Tie as tie
+use Rattle.build_checks.proofs.Lowest.{lowest-none, lowest-here, lowest-on}
+use Rattle.build_checks.proofs.lowest_equal.Statement.{statement}
+use Rattle.build_checks.proofs.lowest_equal.Tie as tie
 
 abbrev Inv-loop : tie.InvT-loop
 Inv-loop points segments i₀ i = (i ≤ segments) × (lowest (equalNext points) 0 segments ≡ lowest (equalNext points) i (segments - i))

@@ -6,9 +6,9 @@ use native.Mathlib.Nat.{sub-zero}
 use native.Mathlib.Omega.{arith}
 use Rattle.rules.specs.Sheet.{onSheet}
 use Rattle.rules.specs.Build.{lowest, offSheet}
-use Rattle.build.proofs.Lowest.{lowest-none, lowest-here, lowest-on}
-use Rattle.build.proofs.checks.lowest_off.Statement.{statement}
-use Rattle.build.proofs.checks.lowest_off.Tie as tie
+use Rattle.build_checks.proofs.Lowest.{lowest-none, lowest-here, lowest-on}
+use Rattle.build_checks.proofs.lowest_off.Statement.{statement}
+use Rattle.build_checks.proofs.lowest_off.Tie as tie
 
 abbrev Inv-loop : tie.InvT-loop
 Inv-loop points count i₀ i = (i ≤ count) × (lowest (offSheet points) 0 count ≡ lowest (offSheet points) i (count - i))

@@ -1,5 +1,4 @@
 // The refusals of building, 1 to 6 in this order.
-use crate::rows::WIDTH;
 use line::on_sheet;
 use line::point_at;
 use line::same_point;
@@ -13,6 +12,9 @@ ghost use lib.IntN.{ℤ};
 ghost use lib.ListN.{length};
 ghost use Rattle.rules.specs.Build.{lowest, offSheet, equalNext, buildRefusal};
 ghost use Rattle.rules.specs.Reply.{builtRefusal};
+
+// The numbers of a row.
+pub const WIDTH: usize = 11;
 
 // The lowest point off the sheet, or count where there is none.
 fn lowest_off(points: &[i32], count: usize) -> usize

@@ -1,0 +1,2 @@
+-- Laws that the proofs of `build_checks` share.
+pub mod Lowest
