@@ -10,8 +10,8 @@ use Rattle.rules.specs.Walk.{walk}
 use Rattle.rules.specs.Rows.{good}
 use Rattle.rules.specs.Questions.{shortfall, farFrom, nearVisit, nearReply}
 use Rattle.rules.specs.Build.{lowest, buildRefusal, tableOf}
+use Rattle.numerals.specs.Numerals.{allDigits, valueFrom, numeral}
 use Rattle.words.specs.Fields.{fields, sameBytes}
-use Rattle.words.specs.Numerals.{allDigits, valueFrom, numeral}
 use Rattle.words.specs.Records.{recordOf}
 use Rattle.print.specs.Decimal.{digitsOf}
 use Rattle.print.specs.Printed.{printed}

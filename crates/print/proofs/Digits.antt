@@ -9,7 +9,7 @@ use native.Mathlib.Nat.{mod-eq-of-lt, pow-suc}
 use borrow.Author.Tests.{ltb-true, ltb-false, lt-ltb, le-ltb}
 use lib.Dec.{ltb}
 use lib.ListN.{length, getD, length-append}
-use Rattle.words.specs.Numerals.{valueFrom}
+use Rattle.numerals.specs.Numerals.{valueFrom}
 use Rattle.print.specs.Decimal.{digitsOf, decimal, Digits, Writes}
 
 -- A digit alone is the number; more digits are those of the tenth, and the last.

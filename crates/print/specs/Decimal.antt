@@ -5,7 +5,7 @@ use mathlib.Core.List.{List, [], _∷_, _++_}
 use Prim.Native.Nat.{ℕ, zero, suc, _+_, _-_, _/_, _%_, _≤_, _<_}
 use lib.Dec.{ltb}
 use lib.ListN.{length, getD}
-use Rattle.words.specs.Numerals.{valueFrom}
+use Rattle.numerals.specs.Numerals.{valueFrom}
 
 -- with at most this many digits before the last
 unfoldable pub digitsOf : ℕ → ℕ → List ℕ

@@ -3,14 +3,15 @@ use mathlib.Core.Path.{_≡_, refl, sym, ap, _∙_}
 use mathlib.Core.Bool.{true, false, cond, _&&_, and-false}
 use mathlib.Core.List.{List, [], _∷_}
 use Prim.Native.Nat.{ℕ, zero, suc, _+_, _-_, _≤_, _<_}
-use native.Mathlib.Nat.{le-of-eq, add-zero}
+use native.Mathlib.Nat.{add-zero}
 use native.Mathlib.Decide.{ℕ-discrete}
 use native.Mathlib.Numerals.{add-one, sub-one}
 use native.Mathlib.Omega.{arith}
 use borrow.Author.Tests.{eq-eqb, ne-eqb}
 use lib.Dec.{eqb}
-use lib.ListN.{length, getD, take, drop, length-drop, drop-of-length-le, List·getD-eq-default}
-use lib.Seq.{drop-cons, take-all}
+use lib.ListN.{length, getD, take, drop, drop-of-length-le, List·getD-eq-default}
+use lib.Seq.{drop-cons}
+use Rattle.numerals.proofs.Digits.{part-from}
 use Rattle.words.specs.Fields.{tab, ontoFirst, fields, sameBytes}
 use Rattle.words.specs.Records.{field}
 
@@ -111,10 +112,6 @@ only-field = by-bytes Alone (λ h. rw (at-end [] 0 (omega arith))) tabbed byte
     byte b bs n r h =
         let k : suc (length (first bs)) ≡ suc (length bs) = rw (first-byte b bs n) at h in
         same-count b bs n ∙ r (omega arith)
-
--- the part from byte a on
-pub part-from : (l : List ℕ) (a : ℕ) → take (length l - a) (drop a l) ≡ drop a l
-part-from l a = take-all (length l - a) (drop a l) (le-of-eq (length-drop a l))
 
 -- a field after the first is a field of the part after the first tab
 pub next-field : (l : List ℕ) (end k : ℕ) → end ≡ length (first l) → end < length l → 0 < k → field (fields l) k ≡ field (fields (take (length l - (end + 1)) (drop (end + 1) l))) (k - 1)

@@ -7,10 +7,10 @@ use Prim.Native.String as string
 use Prim.Native.String.{String}
 use lib.IntN.{pos, negsuc}
 use Rattle.rules.specs.declared.Line.the-variants.{LineA, LineB}
+use Rattle.numerals.specs.Numerals.{allDigits, valueFrom, numeral}
 use Rattle.words.specs.declared.Record.{Record}
 use Rattle.words.specs.declared.Record.the-variants.{Start, Pt, Near, In, Meet, Agree, NotUnderstood}
 use Rattle.words.specs.Fields.{fields, sameBytes}
-use Rattle.words.specs.Numerals.{allDigits, valueFrom, numeral}
 use Rattle.words.specs.Records.{recordOf}
 
 abbrev bytes : String → List ℕ

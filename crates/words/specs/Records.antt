@@ -7,10 +7,10 @@ use lib.Dec.{eqb, leb}
 use lib.IntN.{ℤ, natAbs}
 use lib.ListN.{length, getD}
 use Rattle.rules.specs.declared.Line.the-variants.{LineA, LineB}
+use Rattle.numerals.specs.Numerals.{coordinate, allowance}
 use Rattle.words.specs.declared.Record.{Record}
 use Rattle.words.specs.declared.Record.the-variants.{Start, Pt, Near, In, Meet, Agree, NotUnderstood}
 use Rattle.words.specs.Fields.{fields, sameBytes}
-use Rattle.words.specs.Numerals.{coordinate, allowance}
 
 -- the words, in bytes
 abbrev pub LINE : List ℕ

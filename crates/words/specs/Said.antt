@@ -1,26 +1,17 @@
 -- What the values of the code say, in the words of the definitions: a number, or nothing; and a record of such numbers.
-use mathlib.Core.Bool.{not, _&&_}
 use mathlib.Core.List.{List}
 use mathlib.Core.Option.{Option, none, some}
 use Prim.Native.Nat.{ℕ}
-use lib.Dec.{eqb}
-use lib.IntN.{ℤ, pos, negℤ, natAbs}
-use lib.ListN.{getD}
+use lib.IntN.{ℤ, pos, natAbs}
+use Rattle.numerals.specs.Numerals.{coordinate, allowance}
 use Rattle.words.specs.declared.Record.{Record}
 use Rattle.words.specs.declared.Record.the-variants.{Pt, Near, In, Meet, Agree}
-use Rattle.words.specs.declared.Number.{Number}
-use Rattle.words.specs.declared.Number.the-variants as number
 use Rattle.words.specs.declared.Coord.{Coord}
 use Rattle.words.specs.declared.Coord.the-variants as coord
 use Rattle.words.specs.declared.Visits.{Visits}
 use Rattle.words.specs.declared.Visits.the-variants as visits
 use Rattle.words.specs.Fields.{fields}
-use Rattle.words.specs.Numerals.{valueFrom, goodDigits, when, coordinate, allowance}
 use Rattle.words.specs.Records.{understood, field}
-
-abbrev pub numberSaid : Number → Option ℤ
-numberSaid (number.Whole z) = some z
-numberSaid number.Nothing = none
 
 abbrev pub coordSaid : Coord → Option ℤ
 coordSaid (coord.At z) = some z
@@ -29,10 +20,6 @@ coordSaid coord.Nothing = none
 abbrev pub visitsSaid : Visits → Option ℤ
 visitsSaid (visits.AtMost n) = some (pos n)
 visitsSaid visits.Nothing = none
-
--- what good digits say after a minus; no "-0"
-abbrev pub negated : List ℕ → Option ℤ
-negated ds = when (goodDigits ds && not (eqb (getD ds 0 0) 48)) (negℤ (pos (valueFrom 0 ds)))
 
 -- field k of a text line, as a coordinate or a distance, and as an allowance
 abbrev pub coordinateAt : List ℕ → ℕ → Option ℤ

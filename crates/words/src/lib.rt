@@ -1,17 +1,16 @@
 // How a text line of the question program is read: its fields, its numbers, the record that it is. `record_of` holds for
 // every list of bytes; the functions below it say their results by the definitions of `specs/`.
+use numerals::Number;
+use numerals::within;
 use rules::Line;
 ghost use mathlib.Core.Path.{_≡_};
-ghost use mathlib.Core.Bool.{true, _&&_};
-ghost use Prim.Native.Nat.{_≤_, _<_};
+ghost use mathlib.Core.Bool.{_&&_};
+ghost use Prim.Native.Nat.{_≤_};
 ghost use lib.Dec.{eqb};
-ghost use lib.IntN.{negℤ, pos};
 ghost use lib.ListN.{length};
-ghost use lib.Signed.{leZ};
 ghost use Rattle.words.specs.Fields.{fields, sameBytes};
-ghost use Rattle.words.specs.Numerals.{isDigit, allDigits, valueFrom, goodDigits, numeral, onlyIf};
 ghost use Rattle.words.specs.Records.{field, lineNamed, recordOf};
-ghost use Rattle.words.specs.Said.{numberSaid, coordSaid, visitsSaid, negated, coordinateAt, allowanceAt, ptIn, nearIn, inIn, meetIn, agreeIn};
+ghost use Rattle.words.specs.Said.{coordSaid, visitsSaid, coordinateAt, allowanceAt, ptIn, nearIn, inIn, meetIn, agreeIn};
 
 // A text line, read.
 pub enum Record {
@@ -34,12 +33,6 @@ pub enum Record {
         allowance: u32,
     },
     NotUnderstood,
-}
-
-// A field read as a number.
-enum Number {
-    Whole(i64),
-    Nothing,
 }
 
 // A field read as a coordinate or a distance.
@@ -115,118 +108,6 @@ fn same_bytes(f: &[u8], word: &[u8]) -> bool
         i += 1;
     }
     true
-}
-
-fn is_digit(b: u8) -> bool
-    ensures { λ r. ⌜ r ≡ isDigit b ⌝ }
-{
-    b'0' <= b && b <= b'9'
-}
-
-fn all_digits(f: &[u8]) -> bool
-    ensures { λ r. ⌜ r ≡ allDigits (now (f .entry)) ⌝ }
-{
-    let mut i: usize = 0;
-    while i < f.len() {
-        if !is_digit(f[i]) {
-            return false;
-        }
-        i += 1;
-    }
-    true
-}
-
-fn good_digits(f: &[u8]) -> bool
-    ensures { λ r. ⌜ r ≡ goodDigits (now (f .entry)) ⌝ }
-{
-    if f.len() < 1 {
-        return false;
-    }
-    if 10 < f.len() {
-        return false;
-    }
-    if !all_digits(f) {
-        return false;
-    }
-    if 1 < f.len() {
-        return f[0] != b'0';
-    }
-    true
-}
-
-// The number that good digits write.
-fn value(f: &[u8]) -> u64
-    requires { ⌜ goodDigits (now f) ≡ true ⌝ }
-    ensures { λ r. ⌜ (r ≡ valueFrom 0 (now (f .entry))) × (r < 10000000000) ⌝ }
-{
-    let mut v: u64 = 0;
-    let mut i: usize = 0;
-    while i < f.len() {
-        v = 10 * v + (f[i] - b'0') as u64;
-        i += 1;
-    }
-    v
-}
-
-fn plus(v: u64) -> i64
-    requires { ⌜ v < 10000000000 ⌝ }
-    ensures { λ r. ⌜ r ≡ pos v ⌝ }
-{
-    v as i64
-}
-
-fn minus(v: u64) -> i64
-    requires { ⌜ v < 10000000000 ⌝ }
-    ensures { λ r. ⌜ r ≡ negℤ (pos v) ⌝ }
-{
-    0 - v as i64
-}
-
-// What follows a minus.
-fn negative(f: &[u8]) -> Number
-    ensures { λ r. ⌜ numberSaid r ≡ negated (now (f .entry)) ⌝ }
-{
-    if !good_digits(f) {
-        return Number::Nothing;
-    }
-    if f[0] == b'0' {
-        return Number::Nothing;
-    }
-    Number::Whole(minus(value(f)))
-}
-
-fn numeral(f: &[u8]) -> Number
-    ensures { λ r. ⌜ numberSaid r ≡ numeral (now (f .entry)) ⌝ }
-{
-    if f.len() < 1 {
-        return Number::Nothing;
-    }
-    if f[0] == b'-' {
-        return negative(&f[1..]);
-    }
-    if !good_digits(f) {
-        return Number::Nothing;
-    }
-    Number::Whole(plus(value(f)))
-}
-
-fn between(lo: i64, z: i64, hi: i64) -> bool
-    ensures { λ r. ⌜ r ≡ (leZ lo z && leZ z hi) ⌝ }
-{
-    lo <= z && z <= hi
-}
-
-// A number from lo to hi.
-fn within(f: &[u8], lo: i64, hi: i64) -> Number
-    ensures { λ r. ⌜ numberSaid r ≡ onlyIf (λ z. leZ lo z && leZ z hi) (numeral (now (f .entry))) ⌝ }
-{
-    let Number::Whole(z) = numeral(f) else {
-        return Number::Nothing;
-    };
-    if !between(lo, z, hi) {
-        return Number::Nothing;
-    }
-    Number::Whole(z)
 }
 
 // Field k as a coordinate or a distance.

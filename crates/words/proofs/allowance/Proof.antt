@@ -8,11 +8,12 @@ use lib.Signed.{nonNeg, pos-natAbs}
 use mir.Syntax.{w32, w64}
 use mir.Val.{SFits, Fits}
 use mir.Facts.{toZ-ofZ}
+use Rattle.numerals.specs.Numerals.{allowance}
+use Rattle.numerals.specs.Said.{numberSaid}
+use Rattle.numerals.proofs.Digits.{allowance-fits}
 use Rattle.words.specs.Fields.{fields}
-use Rattle.words.specs.Numerals.{allowance}
 use Rattle.words.specs.Records.{field}
-use Rattle.words.specs.Said.{numberSaid, allowanceAt}
-use Rattle.words.proofs.Digits.{allowance-fits}
+use Rattle.words.specs.Said.{allowanceAt}
 use Rattle.words.proofs.allowance.Statement.{statement}
 use Rattle.words.proofs.allowance.Tie as tie
 

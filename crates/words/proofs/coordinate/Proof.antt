@@ -5,11 +5,12 @@ use borrow.Author.Needs.{needs}
 use mir.Syntax.{w32, w64}
 use mir.Val.{SFits}
 use mir.Facts.{toZ-ofZ}
+use Rattle.numerals.specs.Numerals.{coordinate}
+use Rattle.numerals.specs.Said.{numberSaid}
+use Rattle.numerals.proofs.Digits.{coordinate-fits}
 use Rattle.words.specs.Fields.{fields}
-use Rattle.words.specs.Numerals.{coordinate}
 use Rattle.words.specs.Records.{field}
-use Rattle.words.specs.Said.{numberSaid, coordinateAt}
-use Rattle.words.proofs.Digits.{coordinate-fits}
+use Rattle.words.specs.Said.{coordinateAt}
 use Rattle.words.proofs.coordinate.Statement.{statement}
 use Rattle.words.proofs.coordinate.Tie as tie
 

@@ -9,10 +9,10 @@ use lib.IntN.{pos, negℤ}
 use lib.ListN.{getD}
 use mir.Syntax.{w64}
 use mir.Facts.{toZ-ofZ}
-use Rattle.words.specs.Numerals.{valueFrom, when}
-use Rattle.words.proofs.Digits.{good}
-use Rattle.words.proofs.negative.Statement.{statement}
-use Rattle.words.proofs.negative.Tie as tie
+use Rattle.numerals.specs.Numerals.{valueFrom, when}
+use Rattle.numerals.proofs.Digits.{good}
+use Rattle.numerals.proofs.negative.Statement.{statement}
+use Rattle.numerals.proofs.negative.Tie as tie
 
 good-digits-requires : tie.Need-good-digits-requires
 good-digits-requires c κs = search needs

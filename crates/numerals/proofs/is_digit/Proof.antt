@@ -3,8 +3,8 @@ use mathlib.Core.Path.{sym, _∙_}
 use mathlib.Core.Bool.{_&&_}
 use borrow.Author.Tests.{le-leb, lt-leb}
 use lib.Dec.{leb}
-use Rattle.words.proofs.is_digit.Statement.{statement}
-use Rattle.words.proofs.is_digit.Tie as tie
+use Rattle.numerals.proofs.is_digit.Statement.{statement}
+use Rattle.numerals.proofs.is_digit.Tie as tie
 
 returns : tie.Need-returns
 returns c = sym (λ d. le-leb 48 (c .before .args .b) (c .if1 .taken) d && leb (c .before .args .b) 57)

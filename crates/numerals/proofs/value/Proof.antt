@@ -7,10 +7,10 @@ use native.Mathlib.Nat.{lt-of-le-of-lt}
 use native.Mathlib.Omega.{arith}
 use borrow.Author.Needs.{needs}
 use lib.ListN.{length, drop, getD}
-use Rattle.words.specs.Numerals.{isDigit, allDigits, valueFrom}
-use Rattle.words.proofs.Digits.{digit-least, digit-most, digit-at, value-at, value-end, value-grows, good, good-value}
-use Rattle.words.proofs.value.Statement.{statement}
-use Rattle.words.proofs.value.Tie as tie
+use Rattle.numerals.specs.Numerals.{isDigit, allDigits, valueFrom}
+use Rattle.numerals.proofs.Digits.{digit-least, digit-most, digit-at, value-at, value-end, value-grows, good, good-value}
+use Rattle.numerals.proofs.value.Statement.{statement}
+use Rattle.numerals.proofs.value.Tie as tie
 
 abbrev Inv-loop : tie.InvT-loop
 Inv-loop f v₀ i₀ v i = (i ≤ length f) × (allDigits (drop i f) ≡ true) × (valueFrom 0 f ≡ valueFrom v (drop i f))

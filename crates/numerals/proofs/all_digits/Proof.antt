@@ -5,10 +5,10 @@ use Prim.Native.Nat.{_≤_, _-_, _+_}
 use borrow.Author.Needs.{needs}
 use borrow.Author.Tests.{not-true, not-false}
 use lib.ListN.{length, drop}
-use Rattle.words.specs.Numerals.{allDigits}
-use Rattle.words.proofs.Digits.{digit-at, digits-end}
-use Rattle.words.proofs.all_digits.Statement.{statement}
-use Rattle.words.proofs.all_digits.Tie as tie
+use Rattle.numerals.specs.Numerals.{allDigits}
+use Rattle.numerals.proofs.Digits.{digit-at, digits-end}
+use Rattle.numerals.proofs.all_digits.Statement.{statement}
+use Rattle.numerals.proofs.all_digits.Tie as tie
 
 abbrev Inv-loop : tie.InvT-loop
 Inv-loop f i₀ i = (i ≤ length f) × (allDigits f ≡ allDigits (drop i f))

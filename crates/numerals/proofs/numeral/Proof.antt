@@ -6,12 +6,11 @@ use borrow.Author.Tests.{not-true, not-false}
 use lib.IntN.{pos}
 use mir.Syntax.{w64}
 use mir.Facts.{toZ-ofZ}
-use Rattle.words.specs.Numerals.{valueFrom, when}
-use Rattle.words.specs.Said.{negated}
-use Rattle.words.proofs.Fields.{part-from}
-use Rattle.words.proofs.Digits.{no-bytes, no-minus, at-minus}
-use Rattle.words.proofs.numeral.Statement.{statement}
-use Rattle.words.proofs.numeral.Tie as tie
+use Rattle.numerals.specs.Numerals.{valueFrom, when}
+use Rattle.numerals.specs.Said.{negated}
+use Rattle.numerals.proofs.Digits.{no-bytes, no-minus, at-minus, part-from}
+use Rattle.numerals.proofs.numeral.Statement.{statement}
+use Rattle.numerals.proofs.numeral.Tie as tie
 
 returns : tie.Need-returns
 returns c = sym (no-bytes (c .before .before .args .f .now) (c .if1 .taken))

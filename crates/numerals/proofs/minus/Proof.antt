@@ -7,8 +7,8 @@ use mir.Syntax.{w64}
 use mir.Val.{SFits, toZ}
 use mir.Facts.{toZ-ofZ, toZ-pos}
 use borrow.Author.Needs.{needs}
-use Rattle.words.proofs.minus.Statement.{statement}
-use Rattle.words.proofs.minus.Tie as tie
+use Rattle.numerals.proofs.minus.Statement.{statement}
+use Rattle.numerals.proofs.minus.Tie as tie
 
 small : (v : ℕ) → v < 10000000000 → SFits w64 (negℤ (pos v))
 small zero h = record { sfits = omega arith }

@@ -2,9 +2,9 @@
 use mathlib.Core.Path.{refl, sym, _∙_}
 use borrow.Author.Needs.{needs}
 use borrow.Author.Tests.{le-leb, lt-leb, lt-ltb, le-ltb, not-true, not-false}
-use Rattle.words.proofs.Digits.{good-tests}
-use Rattle.words.proofs.good_digits.Statement.{statement}
-use Rattle.words.proofs.good_digits.Tie as tie
+use Rattle.numerals.proofs.Digits.{good-tests}
+use Rattle.numerals.proofs.good_digits.Statement.{statement}
+use Rattle.numerals.proofs.good_digits.Tie as tie
 
 returns : tie.Need-returns
 returns c = sym (good-tests (c .before .before .args .f .now) (lt-leb 1 _ (c .if1 .taken)) refl refl refl)

@@ -8,10 +8,10 @@ use lib.Signed.{leZ}
 use mir.Syntax.{w64}
 use mir.Val.{SFits}
 use mir.Facts.{toZ-ofZ}
-use Rattle.words.specs.Numerals.{when, onlyIf, numeral}
-use Rattle.words.specs.Said.{numberSaid}
-use Rattle.words.proofs.within.Statement.{statement}
-use Rattle.words.proofs.within.Tie as tie
+use Rattle.numerals.specs.Numerals.{when, onlyIf, numeral}
+use Rattle.numerals.specs.Said.{numberSaid}
+use Rattle.numerals.proofs.within.Statement.{statement}
+use Rattle.numerals.proofs.within.Tie as tie
 
 -- the number read fits 64 bits
 z-fits : (c : tie.After-known-told) → SFits w64 (c .before .z .given .0 .0)

@@ -4,19 +4,19 @@ use mathlib.Core.Bool.{Bool, true, false, not, cond, _&&_, and-true, and-eq-true
 use mathlib.Core.List.{List, [], _∷_}
 use mathlib.Core.Option.{Option, none, some}
 use Prim.Native.Nat.{ℕ, suc, _+_, _*_, _-_, _^_, _≤_, _<_}
-use native.Mathlib.Nat.{le-refl, lt-of-lt-of-le, mul-le-mul-right, mul-assoc, pow-succ', pow-le-pow-right}
+use native.Mathlib.Nat.{le-refl, le-of-eq, lt-of-lt-of-le, mul-le-mul-right, mul-assoc, pow-succ', pow-le-pow-right}
 use native.Mathlib.Numerals.{add-one}
 use native.Mathlib.Omega.{arith}
 use borrow.Author.Tests.{leb-true, eq-eqb, ne-eqb}
 use lib.Dec.{T, eqb, leb, ltb}
 use lib.IntN.{ℤ, pos, negsuc, negℤ, natAbs}
-use lib.ListN.{length, getD, drop, drop-of-length-le}
-use lib.Seq.{drop-cons}
+use lib.ListN.{length, getD, take, drop, length-drop, drop-of-length-le}
+use lib.Seq.{drop-cons, take-all}
 use lib.Signed.{nonNeg}
 use mir.Syntax.{w32}
 use mir.Val.{Fits, SFits}
-use Rattle.words.specs.Numerals.{isDigit, allDigits, valueFrom, goodDigits, minus, when, tailOf, numeral, onlyIf, fitsI32, fitsU32, coordinate, allowance}
-use Rattle.words.specs.Said.{negated}
+use Rattle.numerals.specs.Numerals.{isDigit, allDigits, valueFrom, goodDigits, minus, when, tailOf, numeral, onlyIf, fitsI32, fitsU32, coordinate, allowance}
+use Rattle.numerals.specs.Said.{negated}
 
 -- byte i, and those after it
 pub digit-at : (l : List ℕ) (i : ℕ) → i < length l → allDigits (drop i l) ≡ isDigit (getD l i 0) && allDigits (drop (i + 1) l)
@@ -87,6 +87,10 @@ pub good-tests : (f : List ℕ) {one few all more : Bool} → leb 1 (length f) �
 good-tests f p q r t = λ d. p d && q d && r d && not (t d && eqb (getD f 0 0) 48)
 
 -- ---- with and without a minus
+
+-- the part from byte a on
+pub part-from : (l : List ℕ) (a : ℕ) → take (length l - a) (drop a l) ≡ drop a l
+part-from l a = take-all (length l - a) (drop a l) (le-of-eq (length-drop a l))
 
 -- no bytes are no number
 pub no-bytes : (f : List ℕ) → length f < 1 → numeral f ≡ none

@@ -4,8 +4,8 @@ use mathlib.Core.Bool.{true, false, _&&_}
 use lib.Signed.{leZ}
 use mir.Syntax.{w64}
 use mir.Facts.{toZ-ofZ}
-use Rattle.words.proofs.between.Statement.{statement}
-use Rattle.words.proofs.between.Tie as tie
+use Rattle.numerals.proofs.between.Statement.{statement}
+use Rattle.numerals.proofs.between.Tie as tie
 
 returns : tie.Need-returns
 returns c =

@@ -3,8 +3,8 @@ use native.Mathlib.Omega.{arith}
 use mir.Syntax.{w64}
 use mir.Facts.{toZ-pos}
 use borrow.Author.Needs.{needs}
-use Rattle.words.proofs.plus.Statement.{statement}
-use Rattle.words.proofs.plus.Tie as tie
+use Rattle.numerals.proofs.plus.Statement.{statement}
+use Rattle.numerals.proofs.plus.Tie as tie
 
 cast-result : tie.Need-cast-result
 cast-result c = search needs
