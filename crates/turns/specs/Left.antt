@@ -15,7 +15,7 @@ use Rattle.words.specs.Fields.{lineFeed}
 use Rattle.words.specs.Records.{longest, recordOf}
 use Rattle.desk.specs.Desk.{Desk, countText}
 use Rattle.desk.specs.Chunks.{Carry, carryByte}
-use Rattle.answers.specs.Left.{tableAfter, secondAfter}
+use Rattle.ready.specs.Left.{tableAfter, secondAfter}
 use Rattle.store.specs.States.{pointLeft}
 
 -- ---- the numbers of the two lines, in their stores or in their tables

@@ -16,7 +16,7 @@ ghost use lib.IntN.{ℤ};
 ghost use lib.ListN.{length};
 ghost use Rattle.desk.specs.Desk.{room, turnOf};
 ghost use Rattle.desk.specs.Kept.{storeIn, tableRoom};
-ghost use Rattle.answers.specs.Left.{tableAfter};
+ghost use Rattle.ready.specs.Left.{tableAfter};
 ghost use Rattle.turns.specs.Left.{both, tablesLeft};
 ghost use Rattle.turns.specs.Carried.{deskOf, Lent};
 ghost use Rattle.turns.specs.Turns.{Ready, Turns};

@@ -9,7 +9,7 @@ use Rattle.rules.specs.Questions.{agreeReply}
 use Rattle.rules.specs.Build.{tableOf}
 use Rattle.desk.specs.Desk.{Store}
 use Rattle.desk.specs.Kept.{storeIn}
-use Rattle.answers.proofs.Goes.{goes, asked-both, stands-first, stands-second}
+use Rattle.ready.proofs.Goes.{goes, asked-both, stands-first, stands-second}
 use borrow.Author.Needs.{needs}
 use Rattle.answers.proofs.agree_said.Statement.{statement}
 use Rattle.answers.proofs.agree_said.Tie as tie

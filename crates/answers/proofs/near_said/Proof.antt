@@ -8,8 +8,8 @@ use Rattle.rules.specs.Reply.{Reply}
 use Rattle.rules.specs.Questions.{nearReply}
 use Rattle.desk.specs.Desk.{Store}
 use Rattle.desk.specs.Kept.{storeIn}
-use Rattle.answers.specs.Readied.{goesOn}
-use Rattle.answers.proofs.Goes.{goes, asked, stands}
+use Rattle.ready.specs.Readied.{goesOn}
+use Rattle.ready.proofs.Goes.{goes, asked, stands}
 use borrow.Author.Needs.{needs}
 use Rattle.answers.proofs.near_said.Statement.{statement}
 use Rattle.answers.proofs.near_said.Tie as tie

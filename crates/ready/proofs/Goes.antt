@@ -6,11 +6,11 @@ use lib.IntN.{ℤ}
 use Rattle.rules.specs.Reply.{Reply}
 use Rattle.rules.specs.Build.{tableOf}
 use Rattle.desk.specs.Desk.{Store}
-use Rattle.answers.specs.declared.Readied.{Readied}
-use Rattle.answers.specs.declared.Readied.the-variants.{Ready}
-use Rattle.answers.specs.Readied.{readiedReply, goesOn, Rows}
-use Rattle.answers.specs.Left.{isReady, tableAfter, secondAfter}
-use Rattle.answers.proofs.Tables.{rows-ready, second-is}
+use Rattle.ready.specs.declared.Readied.{Readied}
+use Rattle.ready.specs.declared.Readied.the-variants.{Ready}
+use Rattle.ready.specs.Readied.{readiedReply, goesOn, Rows}
+use Rattle.ready.specs.Left.{isReady, tableAfter, secondAfter}
+use Rattle.ready.proofs.Tables.{rows-ready, second-is}
 
 -- the reply, where what readying came to is known
 pub goes : {r known : Readied} {reply : Reply} → r ≡ known → (ps : List ℤ) (go : List ℤ → Reply)

@@ -25,8 +25,8 @@ use Rattle.built.proofs.Table.{table-length, built-rows, built-length}
 use Rattle.desk.specs.declared.Held.{Held}
 use Rattle.desk.specs.Desk.{Store, refusedAt, onBuild, withTable}
 use Rattle.desk.specs.Kept.{storeIn, Stored, tableRoom}
-use Rattle.answers.specs.Readied.{Rows}
-use Rattle.answers.specs.Left.{clear, isReady, tableAfter, secondAfter}
+use Rattle.ready.specs.Readied.{Rows}
+use Rattle.ready.specs.Left.{clear, isReady, tableAfter, secondAfter}
 
 -- ---------------- a refusal does not depend on a table that is long enough
 

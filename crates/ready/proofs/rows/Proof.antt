@@ -1,8 +1,8 @@
 -- `rows`: of the front of the table, the line has just these rows.
 use native.Mathlib.Nat.{sub-zero}
 use borrow.Author.Needs.{needs}
-use Rattle.answers.proofs.rows.Statement.{statement}
-use Rattle.answers.proofs.rows.Tie as tie
+use Rattle.ready.proofs.rows.Statement.{statement}
+use Rattle.ready.proofs.rows.Tie as tie
 
 sub-segments : tie.Need-sub-segments
 sub-segments c = search needs

@@ -12,8 +12,8 @@ use Rattle.rules.specs.Build.{tableOf}
 use Rattle.built.specs.Accepted.{rowNumbers}
 use Rattle.print.specs.Said.{saidReply}
 use Rattle.desk.specs.Desk.{Store, withTable}
-use Rattle.answers.specs.declared.Readied.{Readied}
-use Rattle.answers.specs.declared.Readied.the-variants.{Ready, Told}
+use Rattle.ready.specs.declared.Readied.{Readied}
+use Rattle.ready.specs.declared.Readied.the-variants.{Ready, Told}
 
 -- ---- a question of one line goes on with its table, or a refusal is told
 abbrev pub readiedReply : Readied → List ℤ → (List ℤ → Reply) → Reply

@@ -1,8 +1,8 @@
 -- `stored`: the numbers before the end are those that are taken.
 use native.Mathlib.Nat.{sub-zero}
 use borrow.Author.Needs.{needs}
-use Rattle.answers.proofs.stored.Statement.{statement}
-use Rattle.answers.proofs.stored.Tie as tie
+use Rattle.ready.proofs.stored.Statement.{statement}
+use Rattle.ready.proofs.stored.Tie as tie
 
 mul-numbers : tie.Need-mul-numbers
 mul-numbers c = search needs

@@ -11,10 +11,10 @@ use Rattle.rules.specs.Build.{buildRefusal, builtTable}
 use Rattle.built.specs.Accepted.{rowNumbers}
 use Rattle.desk.specs.Desk.{Store}
 use Rattle.desk.specs.Kept.{storeIn}
-use Rattle.answers.proofs.Tables.{rows-fit, with-table, ready-is, table-is}
+use Rattle.ready.proofs.Tables.{rows-fit, with-table, ready-is, table-is}
 use borrow.Author.Needs.{needs}
-use Rattle.answers.proofs.ready.Statement.{statement}
-use Rattle.answers.proofs.ready.Tie as tie
+use Rattle.ready.proofs.ready.Statement.{statement}
+use Rattle.ready.proofs.ready.Tie as tie
 
 abbrev store : tie.Start → Store
 store s = storeIn (s .args .held) (s .args .points .now)

@@ -8,13 +8,13 @@ use Rattle.rules.specs.Reply.{Reply}
 use Rattle.rules.specs.Build.{tableOf}
 use Rattle.desk.specs.Desk.{Store, withTable}
 use Rattle.desk.specs.Kept.{storeIn}
-use Rattle.answers.specs.Readied.{goesOn}
-use Rattle.answers.specs.Left.{isReady}
-use Rattle.answers.proofs.Goes.{goes}
-use Rattle.answers.proofs.Tables.{second-is}
+use Rattle.ready.specs.Readied.{goesOn}
+use Rattle.ready.specs.Left.{isReady}
+use Rattle.ready.proofs.Goes.{goes}
+use Rattle.ready.proofs.Tables.{second-is}
 use borrow.Author.Needs.{needs}
-use Rattle.answers.proofs.ready_both.Statement.{statement}
-use Rattle.answers.proofs.ready_both.Tie as tie
+use Rattle.ready.proofs.ready_both.Statement.{statement}
+use Rattle.ready.proofs.ready_both.Tie as tie
 
 abbrev storeA : tie.Start → Store
 storeA s = storeIn (s .args .held-a) (s .args .points-a .now)

@@ -1,3 +1,0 @@
--- Laws that the proofs of `answers` share.
-pub mod Tables
-pub mod Goes

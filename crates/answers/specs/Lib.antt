@@ -1,3 +1,0 @@
--- What the contracts of `answers` are said with.
-pub mod Readied
-pub mod Left

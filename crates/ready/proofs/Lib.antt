@@ -1,0 +1,3 @@
+-- Laws that the proofs of `ready` share.
+pub mod Tables
+pub mod Goes

@@ -1,0 +1,3 @@
+-- What the contracts of `ready` are said with.
+pub mod Readied
+pub mod Left
