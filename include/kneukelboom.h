@@ -8,9 +8,13 @@
  * Promises
  *   1. Every call takes every input and ends. Bad input gets its numbered refusal, by a fixed order of checks. A refused build leaves
  *      the table as it was; numbers of the table past its rows stay unchanged; a question writes nothing.
- *   2. For a table that kneukelboom_build wrote, each answer is the one that plain geometry gives over all the original segments. So
- *      for any table whose rows are good and hold their points, whoever wrote it.
+ *   2. For a table that kneukelboom_build wrote for these points, each answer is the one that plain geometry gives over all the
+ *      original segments.
  *   3. Once one allowance brings an answer or a refusal, every larger one brings the same after the same number of visits.
+ * Promises 2 and 3 are the theorems near-built, meet-built, in-built and agree-built.
+ *
+ * A table from elsewhere is answered too, but only a sound one (good rows, strips and boxes that hold their points) as in 2:
+ * where the strips or boxes of good-looking rows leave points out, a no or an outside can be false. Nothing here tells.
  *
  * Undecided means: the search needs more visits than were allowed. It says nothing about the lines, and is never to be read as a no.
  * Ask again with a larger allowance. For lines of n and m segments these always suffice: 2n-1 visits for near and inside, 2nm-1 for
@@ -104,7 +108,7 @@ typedef struct kneukelboom_reply {
 
 /*
  * Every length counts numbers, not points; points lie as x, y, x, y. In a question the table is one that build wrote for these
- * points; any other is answered too, with refusal 10 where a row that is read is bad.
+ * points; any other is answered too, with refusal 10 where a row that is read is bad, and at your own risk where none is.
  */
 
 /* Writes the table of a line: built, or refused and nothing is written. */

@@ -4,6 +4,10 @@
 //! every input: damaged or foreign tables get refusal 10 where a row that is read is bad. [`crate::Line`] is
 //! the same with vectors of its own.
 //!
+//! The answers are plain geometry's over a table that [`build`] wrote for these points. A table from elsewhere
+//! whose rows look good, but whose strips or boxes leave points out, is not found out, and a no or an outside
+//! over it can be false.
+//!
 //! ```
 //! use kneukelboom::{lent, Answer};
 //!
