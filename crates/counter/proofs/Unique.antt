@@ -17,10 +17,8 @@ use Rattle.words.specs.Fields.{lineFeed}
 use Rattle.words.specs.Records.{longest, recordOf}
 use Rattle.print.specs.Said.{saidReply}
 use Rattle.print.proofs.Unique.{said-unique, put-unique}
-use Rattle.desk.specs.declared.Held.{Held}
-use Rattle.desk.specs.Desk.{Store, Desk, room, countText, turn}
+use Rattle.desk.specs.Desk.{Desk, room, countText, turn}
 use Rattle.desk.specs.Chunks.{Carry, begun, carryByte}
-use Rattle.desk.specs.Kept.{storeIn, Stored}
 use Rattle.store.specs.declared.State.{State}
 use Rattle.store.specs.declared.Speech.{Speech}
 use Rattle.store.specs.declared.Speech.the-variants.{Quiet, Says}
@@ -30,7 +28,7 @@ use Rattle.turns.specs.Left.{Both, Numbers, Slices, slices, storesLeft, recordL
 use Rattle.turns.specs.Carried.{keptBytes, Bounds}
 use Rattle.counter.specs.Carried.{carryOf, Feeds, Finishes}
 use Rattle.turns.specs.Turns.{heard, Turns}
-use Rattle.store.proofs.Stores.{points-counted}
+use Rattle.store.proofs.Stores.{held-unique}
 use Rattle.store.specs.States.{pointLeft, counted}
 use Rattle.counter.proofs.Carries.{pending-bytes}
 
@@ -98,14 +96,6 @@ chunk-sized c l [] s = s
 chunk-sized c l (b ∷ bs) s = chunk-sized (carryByte c b) (byteLeft c l b) bs (byte-sized c l b s)
 
 -- ---------------- one state
--- The same store is held the same way.
-held-unique : {h h′ : Held} {xs ys : List ℤ} → Stored h xs → Stored h′ ys → storeIn h xs ≡ storeIn h′ ys → h ≡ h′
-held-unique {h} {h′} {xs} {ys} p q e =
-    λ i. record {
-      count = (sym (points-counted h xs p) ∙ ap (λ (s : Store). pointsOf (s .points)) e ∙ points-counted h′ ys q) i;
-      over = e i .over;
-    }
-
 -- The same carry is carried by the same state.
 pub state-unique : {s s′ : State} {l l′ : Slices} → Sized l → Sized l′ → Bounds s → Bounds s′ → carryOf s l ≡ carryOf s′ l′ → s ≡ s′
 state-unique {s} {s′} {l} {l′} size size′ k k′ e =

@@ -8,9 +8,10 @@ use lib.IntN.{ℤ}
 use Rattle.rules.specs.declared.Line.the-variants.{LineA, LineB}
 use Rattle.rules.specs.declared.Point.{Point}
 use Rattle.rules.specs.Sheet.{point, pointsOf}
-use Rattle.rules.specs.Plain.{plainNear, plainMeet, plainOn, plainInside}
-use Rattle.rules.specs.Reply.{Reply, YES, NO, INSIDE, OUTSIDE, ON, UNDECIDED, says, disagrees}
+use Rattle.rules.specs.Plain.{plainNear, plainMeet}
+use Rattle.rules.specs.Reply.{Reply, YES, NO, UNDECIDED, says, disagrees}
 use Rattle.rules.specs.Build.{lowest}
+use Rattle.ring_truth.specs.Truth.{plainSide}
 
 -- There is a number of visits, at most `enough`: with at least so many allowed the reply is what plain geometry says,
 -- after exactly so many visits; with fewer it is UNDECIDED, with the allowance as its visits.
@@ -28,7 +29,7 @@ abbrev pub meetPlain : List ℤ → List ℤ → ℕ → Reply
 meetPlain ps qs v = says (cond (plainMeet ps qs) YES NO) v
 
 abbrev pub inPlain : List ℤ → Point → ℕ → Reply
-inPlain ps z v = says (cond (plainOn ps z) ON (cond (plainInside ps z) INSIDE OUTSIDE)) v
+inPlain ps z v = says (plainSide ps z) v
 
 -- the lowest point of a line that is not NEAR the other; where each one is, the number of its points
 abbrev pub firstApart : List ℤ → List ℤ → ℤ → ℕ

@@ -66,3 +66,11 @@ module _ (h : Held) (xs : List ℤ) (s : Stored h xs) where
     -- Past the 257th it does not.
     pub point-past : room ≤ h .count → storeIn (record { count = h .count; over = true }) xs ≡ withPoint (storeIn h xs) x y
     point-past l = let counted = points-counted in sym (ap (λ (k : Bool). cond k behind past) (le-ltb (pointsOf (storeIn h xs .points)) room (omega arith)))
+
+-- The same store is held the same way.
+pub held-unique : {h h′ : Held} {xs ys : List ℤ} → Stored h xs → Stored h′ ys → storeIn h xs ≡ storeIn h′ ys → h ≡ h′
+held-unique {h} {h′} {xs} {ys} p q e =
+    λ i. record {
+      count = (sym (points-counted h xs p) ∙ ap (λ (s : Store). pointsOf (s .points)) e ∙ points-counted h′ ys q) i;
+      over = e i .over;
+    }
