@@ -11,7 +11,7 @@
  *   2. For a table that kneukelboom_build wrote for these points, each answer is the one that plain geometry gives over all the
  *      original segments.
  *   3. Once one allowance brings an answer or a refusal, every larger one brings the same after the same number of visits.
- * Promises 2 and 3 are the theorems near-built, meet-built, in-built and agree-built.
+ * Of such a table promises 2 and 3 are the theorems near-built, meet-built, in-built and agree-built; 3 holds of any table.
  *
  * A table from elsewhere is answered too, but only a sound one (good rows, strips and boxes that hold their points) as in 2:
  * where the strips or boxes of good-looking rows leave points out, a no or an outside can be false. Nothing here tells.
