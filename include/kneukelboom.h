@@ -1,30 +1,36 @@
 /*
  * kneukelboom.h: verified strip trees over whole-number lines, for C and C++.
  *
- * A line is a list of points in sheet units of 1/16 metre. Its strip tree is built once, into a table that the caller lends; then
- * four questions are asked of line and table: is a point near the line, do two lines meet, does a point lie inside a ring, do
- * two lines agree. The functions are proved: docs/STATEMENTS.md names the theorem for each promise below.
+ * A line is a list of points in sheet units of 1/16 metre. Its strip tree is built once, into a table that the caller
+ * lends; then four questions are asked of line and table: is a point near the line, do two lines meet, does a point lie
+ * inside a ring, do two lines agree. The functions are proved: docs/STATEMENTS.md names the theorem for each promise
+ * below.
  *
  * Promises
- *   1. Every call takes every input and ends. Bad input gets its numbered refusal, by a fixed order of checks. A refused build leaves
- *      the table as it was; numbers of the table past its rows stay unchanged; a question writes nothing.
- *   2. For a table that kneukelboom_build wrote for these points, each answer is the one that plain geometry gives over all the
- *      original segments.
- *   3. Once one allowance brings an answer or a refusal, every larger one brings the same after the same number of visits.
- * Of such a table promises 2 and 3 are the theorems near-built, meet-built, in-built and agree-built; 3 holds of any table.
+ *   1. Every call takes every input and ends. Bad input gets its numbered refusal, by a fixed order of checks. A
+ *      refused build leaves the table as it was; numbers of the table past its rows stay unchanged; a question writes
+ *      nothing.
+ *   2. For a table that kneukelboom_build wrote for these points, each answer is the one that plain geometry gives over
+ *      all the original segments.
+ *   3. Once one allowance brings an answer or a refusal, every larger one brings the same after the same number of
+ *      visits.
+ * Of such a table promises 2 and 3 are the theorems near-built, meet-built, in-built and agree-built; 3 holds of any
+ * table.
  *
- * A table from elsewhere is answered too, but only a sound one (good rows, strips and boxes that hold their points) as in 2:
- * where the strips or boxes of good-looking rows leave points out, a no or an outside can be false. Nothing here tells.
+ * A table from elsewhere is answered too, but only a sound one (good rows, strips and boxes that hold their points) as
+ * in 2: where the strips or boxes of good-looking rows leave points out, a no or an outside can be false. Nothing here
+ * tells.
  *
- * Undecided means: the search needs more visits than were allowed. It says nothing about the lines, and is never to be read as a no.
- * Ask again with a larger allowance. For lines of n and m segments these always suffice: 2n-1 visits for near and inside, 2nm-1 for
- * meet, (n+1)(2m-1) + (m+1)(2n-1) for agree; UINT32_MAX is above them all.
+ * Undecided means: the search needs more visits than were allowed. It says nothing about the lines, and is never to be
+ * read as a no. Ask again with a larger allowance. For lines of n and m segments these always suffice: 2n-1 visits for
+ * near and inside, 2nm-1 for meet, (n+1)(2m-1) + (m+1)(2n-1) for agree; UINT32_MAX is above them all.
  *
- * Nothing is allocated, kept or copied: no heap, no state between calls, so calls may run in several threads at once. Walks and
- * the builder call themselves, at most n deep (meet: n + m).
+ * Nothing is allocated, kept or copied: no heap, no state between calls, so calls may run in several threads at once.
+ * Walks and the builder call themselves, at most n deep (meet: n + m).
  *
  * What the caller owes, as for any C function that takes arrays
- *   - A pointer leads to at least as many numbers as the length after it says. It may be null only where that length is 0.
+ *   - A pointer leads to at least as many numbers as the length after it says. It may be null only where that length is
+ *     0.
  *   - Nobody writes points or tables during a call, and the table of a build overlaps no part of the points.
  *
  * Example: is (4,5) within 2 units of the line (0,0) (4,3) (8,0)?
@@ -36,8 +42,8 @@
  *         reply = kneukelboom_near(points, 6, table, KNEUKELBOOM_TABLE_LEN(6), 4, 5, 2, 10);
  *     // reply.word is KNEUKELBOOM_YES, reply.visits is 2
  *
- * To link: `rt staticlib kneukelboom_c` writes target/staticlib/libkneukelboom_c.a (x86-64 Linux), which needs no other library.
- * rust/tests/header.rs holds this file against the proved source, crates/kneukelboom_c/src/lib.rt.
+ * To link: `rt staticlib kneukelboom_c` writes target/staticlib/libkneukelboom_c.a (x86-64 Linux), which needs no other
+ * library. rust/tests/header.rs holds this file against the proved source, crates/kneukelboom_c/src/lib.rt.
  */
 #ifndef KNEUKELBOOM_H
 #define KNEUKELBOOM_H
@@ -55,8 +61,10 @@ extern "C" {
 #define KNEUKELBOOM_SHEET 16383
 #define KNEUKELBOOM_FARTHEST 32767
 
-/* How many numbers the table of a line needs: 11 * (2n-1) for n segments. The line's length counts numbers, two for a point. */
-#define KNEUKELBOOM_TABLE_LEN(points_len) ((points_len) < 4 ? 0 : 11 * ((points_len) - 3))
+/* How many numbers a row of a table has, and the table of a line: 2n-1 rows for n segments. The line's length counts
+ * numbers, two for a point. */
+#define KNEUKELBOOM_ROW_WIDTH 11
+#define KNEUKELBOOM_TABLE_LEN(points_len) ((points_len) < 4 ? 0 : KNEUKELBOOM_ROW_WIDTH * ((points_len) - 3))
 
 /* What a reply says: `word`. */
 enum {
@@ -78,8 +86,8 @@ enum {
 };
 
 /*
- * What a call answers. `number`, `line` and `place` are 0 but for a refusal, and for agree's no, where `line` and `place` name the
- * first point that is not near the other line.
+ * What a call answers. `number`, `line` and `place` are 0 but for a refusal, and for agree's no, where `line` and
+ * `place` name the first point that is not near the other line.
  *
  * Refusals, in the order checked. Questions check 1, 2, 3, 6 (A wholly, then B), then 7, 8, 9, then walk.
  *
@@ -96,7 +104,8 @@ enum {
  *   10      a row that was read at a visit is bad: the table is not this line's     the row, from 0
  *   11      a child's row is not below 2n-1 (the checks of 10 leave it no case)     the parent's row
  *
- * The line is the one whose points or table are at fault: A where a call has one line; 7, and 8 outside agree, have none.
+ * The line is the one whose points or table are at fault: A where a call has one line; 7, and 8 outside agree, have
+ * none.
  */
 typedef struct kneukelboom_reply {
     uint32_t word;   /* KNEUKELBOOM_BUILT to KNEUKELBOOM_REFUSED */
@@ -107,32 +116,35 @@ typedef struct kneukelboom_reply {
 } kneukelboom_reply;
 
 /*
- * Every length counts numbers, not points; points lie as x, y, x, y. In a question the table is one that build wrote for these
- * points; any other is answered too, with refusal 10 where a row that is read is bad, and at your own risk where none is.
+ * Every length counts numbers, not points; points lie as x, y, x, y. In a question the table is one that build wrote
+ * for these points; any other is answered too, with refusal 10 where a row that is read is bad, and at your own risk
+ * where none is.
  */
 
 /* Writes the table of a line: built, or refused and nothing is written. */
 kneukelboom_reply kneukelboom_build(const int32_t *points, size_t points_len, int32_t *table, size_t table_len);
 
-/* Is (x,y) within the distance of some segment of the line? Exactly that far is within. Yes, no, undecided or refused. */
-kneukelboom_reply kneukelboom_near(const int32_t *points, size_t points_len, const int32_t *table, size_t table_len, int64_t x,
-                                   int64_t y, int64_t distance, uint32_t allowance);
+/* Is (x,y) within the distance of some segment of the line? Exactly that far is within. Yes, no, undecided, refused. */
+kneukelboom_reply kneukelboom_near(const int32_t *points, size_t points_len, const int32_t *table, size_t table_len,
+                                   int64_t x, int64_t y, int64_t distance, uint32_t allowance);
 
-/* On which side of a ring is (x,y)? Inside, outside, on, undecided or refused. Where the ring crosses itself, inside is odd. */
-kneukelboom_reply kneukelboom_inside(const int32_t *points, size_t points_len, const int32_t *table, size_t table_len, int64_t x,
-                                     int64_t y, uint32_t allowance);
+/* On which side of a ring is (x,y)? Inside, outside, on, undecided, refused. Where it crosses itself, inside is odd. */
+kneukelboom_reply kneukelboom_inside(const int32_t *points, size_t points_len, const int32_t *table, size_t table_len,
+                                     int64_t x, int64_t y, uint32_t allowance);
 
 /* Do two lines share a point, ends, touches and overlaps included? Yes, no, undecided or refused. */
-kneukelboom_reply kneukelboom_meet(const int32_t *points_a, size_t points_a_len, const int32_t *table_a, size_t table_a_len,
-                                   const int32_t *points_b, size_t points_b_len, const int32_t *table_b, size_t table_b_len,
+kneukelboom_reply kneukelboom_meet(const int32_t *points_a, size_t points_a_len, const int32_t *table_a,
+                                   size_t table_a_len, const int32_t *points_b, size_t points_b_len,
+                                   const int32_t *table_b, size_t table_b_len,
                                    uint32_t allowance);
 
 /*
- * Is each point of A within the distance of B, and each point of B within it of A? Yes, no, undecided or refused. A no names the first
- * point that is not: A's points are asked in order, then B's.
+ * Is each point of A within the distance of B, and each point of B within it of A? Yes, no, undecided or refused. A no
+ * names the first point that is not: A's points are asked in order, then B's.
  */
-kneukelboom_reply kneukelboom_agree(const int32_t *points_a, size_t points_a_len, const int32_t *table_a, size_t table_a_len,
-                                    const int32_t *points_b, size_t points_b_len, const int32_t *table_b, size_t table_b_len,
+kneukelboom_reply kneukelboom_agree(const int32_t *points_a, size_t points_a_len, const int32_t *table_a,
+                                    size_t table_a_len, const int32_t *points_b, size_t points_b_len,
+                                    const int32_t *table_b, size_t table_b_len,
                                     int64_t distance, uint32_t allowance);
 
 #ifdef __cplusplus

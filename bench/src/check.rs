@@ -7,6 +7,7 @@ use crate::lent::word::{NO, REFUSED, UNDECIDED, YES};
 use crate::plain;
 use crate::shapes::{Pair, Random, Shape};
 use crate::Reply;
+use kneukelboom::{FARTHEST, SHEET};
 
 /// Prints the difference and ends the run.
 #[cold]
@@ -224,13 +225,13 @@ fn ask(a: &Line, b: &Line, (x, y): (i64, i64), d: i64, allowance: u32) -> u64 {
 /// A short line; now and then one that cannot be built, or a ring.
 fn wander(random: &mut Random) -> Vec<i32> {
     let count = random.between(0, 20).max(random.between(0, 5));
-    let reach = random.pick(&[3, 30, 16_383]);
+    let reach = random.pick(&[3, 30, SHEET]);
     let mut points: Vec<i32> = Vec::new();
     for _ in 0..count {
         points.extend([random.between(-reach, reach), random.between(-reach, reach)]);
     }
     match random.between(0, 11) {
-        0 => points.extend([random.pick(&[16_384, -16_384, i32::MIN, i32::MAX]), 0]),
+        0 => points.extend([random.pick(&[SHEET + 1, -SHEET - 1, i32::MIN, i32::MAX]), 0]),
         1 => points.push(0),
         2..=6 if count > 2 => points.extend([points[0], points[1]]),
         _ => {}
@@ -268,18 +269,18 @@ fn damage(line: &mut Line, random: &mut Random) {
 /// A number with a liking for the limits.
 fn value(random: &mut Random) -> i32 {
     let limits = [
-        16_383,
-        -16_383,
-        16_384,
-        -16_384,
-        32_767,
-        32_768,
+        SHEET,
+        -SHEET,
+        SHEET + 1,
+        -SHEET - 1,
+        FARTHEST,
+        FARTHEST + 1,
         i32::MIN,
         i32::MAX,
     ];
     match random.between(0, 7) {
         0 => random.pick(&limits),
-        1 => random.between(-16_383, 16_383),
+        1 => random.between(-SHEET, SHEET),
         _ => random.between(-30, 30),
     }
 }

@@ -20,11 +20,9 @@ use core::mem::MaybeUninit;
 use crate::lent::line::{LINE_A, LINE_B, NO_LINE};
 use crate::lent::word::{BUILT, INSIDE, NO, ON, OUTSIDE, REFUSED, UNDECIDED, YES};
 use crate::Reply;
+use kneukelboom::{MOST_POINTS, ROW_WIDTH as ROW, SHEET};
 
-const SHEET: i32 = 16_383;
-const MOST_POINTS: usize = 4_097;
-const FARTHEST: i64 = 32_767;
-const ROW: usize = 11;
+const FARTHEST: i64 = kneukelboom::FARTHEST as i64;
 
 type Point = (i32, i32);
 

@@ -13,6 +13,7 @@ mod plain;
 mod race;
 mod report;
 mod shapes;
+mod times;
 
 use std::hint::black_box;
 use std::process::ExitCode;
@@ -21,9 +22,10 @@ use std::time::Instant;
 use check::Line;
 use kneukelboom::lent::word::{INSIDE, ON, YES};
 pub use kneukelboom::lent::{self, Reply};
-use race::{Race, Times};
+use race::Race;
 use report::{Question, Report, Row};
 use shapes::{Random, Shape, PAIRS, POINTS, SHAPES};
+use times::Times;
 
 const DISTANCES: [i64; 4] = [0, 8, 32, 500];
 /// Points asked about in a cell, enough that the processor does not learn them by heart.

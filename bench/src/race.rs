@@ -3,35 +3,10 @@
 use std::hint::black_box;
 use std::time::{Duration, Instant};
 
-use crate::report::median;
+use crate::times::{median, Times};
 
 /// Runs a cell's questions once and gives a sum of what they said.
 pub type Runner<'a> = &'a mut (dyn FnMut() -> u64 + 'a);
-
-/// Nanoseconds of one run, median over the repetitions. The ratios are medians of the ratios within a repetition. What has not
-/// run is not a number.
-pub struct Times {
-    pub ours: f64,
-    pub hand: f64,
-    pub form: f64,
-    pub plain: f64,
-    pub ours_by_hand: f64,
-    pub ours_by_form: f64,
-    pub plain_by_ours: f64,
-}
-
-impl Times {
-    pub fn per(self, count: usize) -> Times {
-        let count = count as f64;
-        Times {
-            ours: self.ours / count,
-            hand: self.hand / count,
-            form: self.form / count,
-            plain: self.plain / count,
-            ..self
-        }
-    }
-}
 
 /// The orders in which the lanes run, repetition after repetition: within them each lane follows each other one once. A lane that
 /// always came after the plain scan would always find the caches and the branch predictor as the scan leaves them.

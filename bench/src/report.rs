@@ -2,7 +2,7 @@
 
 use std::fs;
 
-use crate::race::Times;
+use crate::times::{median, Times};
 
 #[derive(Clone, Copy, PartialEq, Eq, Debug)]
 pub enum Question {
@@ -60,15 +60,6 @@ impl Row {
             .collect();
         place.extend(self.d.map(|d| format!("D {d}")));
         place.join(", ")
-    }
-}
-
-pub fn median(mut values: Vec<f64>) -> f64 {
-    values.sort_by(f64::total_cmp);
-    match values.len() {
-        0 => f64::NAN,
-        count if count % 2 == 1 => values[count / 2],
-        count => (values[count / 2 - 1] + values[count / 2]) / 2.0,
     }
 }
 

@@ -2,7 +2,7 @@
 
 use std::f64::consts::TAU;
 
-pub const SHEET: i32 = 16_383;
+use kneukelboom::SHEET;
 
 /// splitmix64: short, and the same on every machine.
 pub struct Random(pub u64);

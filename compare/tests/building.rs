@@ -2,6 +2,7 @@
 
 use compare::{Dice, Lent};
 use kneukelboom::lent::{self, line, word, Reply};
+use kneukelboom::{MOST_POINTS, ROW_WIDTH, SHEET};
 
 /// Builds into a table of so many numbers and looks that a refusal leaves every one as it was.
 fn refused(points: &[i32], room: usize) -> (u32, u64) {
@@ -53,7 +54,7 @@ fn odd_length_is_refused_1_and_too_few_points_2() {
 
 #[test]
 fn a_line_of_4097_points_is_taken_and_of_4098_refused_3() {
-    let most = long_line(4_097);
+    let most = long_line(MOST_POINTS);
     Lent::built(&most);
     assert_eq!(refused(&long_line(4_098), 90_200), (3, 0));
     let mut odd = long_line(4_098);
@@ -63,7 +64,7 @@ fn a_line_of_4097_points_is_taken_and_of_4098_refused_3() {
 
 #[test]
 fn coordinates_at_the_limit_are_taken_and_past_it_refused_4_at_the_lowest_point() {
-    for limit in [16_383, -16_383] {
+    for limit in [SHEET, -SHEET] {
         taken(&[0, 0, limit, 1, 1, limit, limit, limit], 99);
     }
     for past in [16_384, -16_384, i32::MAX, i32::MIN] {
@@ -124,12 +125,15 @@ fn a_table_one_number_short_is_refused_6_and_an_exact_or_longer_one_serves() {
 #[test]
 fn the_worst_line_builds_with_every_split_at_an_end() {
     // of the points on the other side of the chord the last is always the farthest from it
-    let points: Vec<i32> = (0..4_097)
+    let points: Vec<i32> = (0..MOST_POINTS as i32)
         .flat_map(|k| [3 * k, if k % 2 == 0 { 3 * k } else { -3 * k }])
         .collect();
     let worst = Lent::built(&points);
     for row in 0..4_095 {
-        let (last, split) = (worst.table[11 * row + 1], worst.table[11 * row + 2]);
+        let (last, split) = (
+            worst.table[ROW_WIDTH * row + 1],
+            worst.table[ROW_WIDTH * row + 2],
+        );
         assert_eq!((last, split), (4_096 - row as i32, 4_095 - row as i32));
     }
 }
@@ -138,7 +142,7 @@ fn the_worst_line_builds_with_every_split_at_an_end() {
 fn tables_are_those_of_the_second_reading() {
     let mut dice = Dice(20_261_115);
     for round in 0..3_000 {
-        let half = dice.one_of(&[1, 2, 5, 40, 1_000, 16_383]);
+        let half = dice.one_of(&[1, 2, 5, 40, 1_000, SHEET]);
         let segments = if round % 100 == 0 {
             300
         } else {

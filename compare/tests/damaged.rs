@@ -2,6 +2,7 @@
 //! off the sheet. Each answer, visit count and refusal is the second reading's.
 
 use compare::{agree, inside, meet, near, Dice, Lent};
+use kneukelboom::{FARTHEST, ROW_WIDTH, SHEET};
 
 const VALUES: [i32; 14] = [
     -1,
@@ -12,10 +13,10 @@ const VALUES: [i32; 14] = [
     4,
     -2,
     7,
-    16_383,
-    16_384,
-    -16_383,
-    -16_384,
+    SHEET,
+    SHEET + 1,
+    -SHEET,
+    -SHEET - 1,
     i32::MIN,
     i32::MAX,
 ];
@@ -27,9 +28,7 @@ fn small_lines() -> Vec<Lent> {
         &[0, 0, 4, 3, 8, 0],
         &[0, 0, 4, 0, 4, 4, 0, 0],
         &[0, 0, 4, 0, 4, 4, 0, 4, 0, 0],
-        &[
-            -16_383, -16_383, 16_383, 16_383, 16_383, -16_383, -16_383, 16_383,
-        ],
+        &[-SHEET, -SHEET, SHEET, SHEET, SHEET, -SHEET, -SHEET, SHEET],
     ]
     .into_iter()
     .map(Lent::built)
@@ -38,7 +37,7 @@ fn small_lines() -> Vec<Lent> {
 
 fn ask_all(damaged: &Lent, sound: &Lent) {
     for allowance in [0, 1, 2, 3, 100] {
-        for (x, y, d) in [(4, 5, 2), (2, 1, 0), (9, 9, 3), (-16_383, 16_383, 32_767)] {
+        for (x, y, d) in [(4, 5, 2), (2, 1, 0), (9, 9, 3), (-SHEET, SHEET, FARTHEST)] {
             near(damaged, x, y, d, allowance);
             inside(damaged, x, y, allowance);
         }
@@ -92,9 +91,10 @@ fn rows_of_other_nodes_and_numbers_at_random() {
             if round % 2 == 0 {
                 damaged
                     .table
-                    .copy_within(11 * from..11 * from + 11, 11 * to);
+                    .copy_within(ROW_WIDTH * from..ROW_WIDTH * (from + 1), ROW_WIDTH * to);
             } else {
-                damaged.table[11 * to + dice.within(0, 10) as usize] = dice.one_of(&VALUES);
+                damaged.table[ROW_WIDTH * to + dice.within(0, ROW_WIDTH as i32 - 1) as usize] =
+                    dice.one_of(&VALUES);
             }
         }
         ask_all(&damaged, &sound);

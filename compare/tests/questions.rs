@@ -3,6 +3,7 @@
 
 use compare::{agree, inside, meet, near, Dice, Lent};
 use kneukelboom::lent::word;
+use kneukelboom::{FARTHEST, SHEET};
 use second::geometry::{plain_astray, plain_meet, plain_near, plain_side, Point, Side};
 
 const ENOUGH: u32 = u32::MAX;
@@ -15,13 +16,13 @@ fn allowances(exact: u32) -> [u32; 5] {
 fn near_is_the_plain_answer_and_counts_as_the_second_reading() {
     let mut dice = Dice(2);
     for round in 0..4_000 {
-        let half = dice.one_of(&[2, 6, 40, 16_383]);
+        let half = dice.one_of(&[2, 6, 40, SHEET]);
         let line = Lent::built(&dice.line(1 + round % 30, half));
         let z = Point {
             x: dice.within(-half, half),
             y: dice.within(-half, half),
         };
-        let d = dice.one_of(&[0, 1, half / 3, half, 32_767]);
+        let d = dice.one_of(&[0, 1, half / 3, half, FARTHEST]);
         let reply = near(&line, z.x, z.y, d, ENOUGH);
         assert_eq!(reply.word == word::YES, plain_near(&line.points, z, d));
         for allowance in allowances(reply.visits) {
@@ -43,7 +44,7 @@ fn near_checks_7_before_8_and_both_after_the_lengths() {
     ] {
         assert_eq!(near(&line, x, y, d, 9).number, number);
     }
-    assert_eq!(near(&line, 4, 5, 32_767, 9).word, word::YES);
+    assert_eq!(near(&line, 4, 5, FARTHEST, 9).word, word::YES);
     let mut short = line.clone();
     short.table.truncate(32);
     assert_eq!(near(&short, 16_384, 0, -1, 9).number, 6);
@@ -53,7 +54,7 @@ fn near_checks_7_before_8_and_both_after_the_lengths() {
 fn meet_is_the_plain_answer_both_ways_round() {
     let mut dice = Dice(3);
     for round in 0..4_000 {
-        let half = dice.one_of(&[2, 5, 30, 16_383]);
+        let half = dice.one_of(&[2, 5, 30, SHEET]);
         let a = Lent::built(&dice.line(1 + round % 17, half));
         let b = Lent::built(&dice.line(1 + round % 13, half));
         let reply = meet(&a, &b, ENOUGH);
@@ -110,7 +111,7 @@ fn side_word(side: Side) -> u32 {
 fn inside_is_the_plain_side_of_any_ring() {
     let mut dice = Dice(4);
     for round in 0..4_000 {
-        let half = dice.one_of(&[2, 4, 9, 60, 16_383]);
+        let half = dice.one_of(&[2, 4, 9, 60, SHEET]);
         let ring = Lent::built(&dice.ring(3 + round % 20, half));
         let z = Point {
             x: dice.within(-half, half),
@@ -174,10 +175,10 @@ fn a_ring_of_4_points_is_taken_of_3_and_an_open_line_refused_9() {
 fn agree_is_the_plain_answer_and_names_the_first_point_astray() {
     let mut dice = Dice(5);
     for round in 0..2_000 {
-        let half = dice.one_of(&[2, 6, 40, 16_383]);
+        let half = dice.one_of(&[2, 6, 40, SHEET]);
         let a = Lent::built(&dice.line(1 + round % 9, half));
         let b = Lent::built(&dice.line(1 + round % 11, half));
-        let d = dice.one_of(&[0, 1, half / 2, half, 32_767]);
+        let d = dice.one_of(&[0, 1, half / 2, half, FARTHEST]);
         let reply = agree(&a, &b, d, ENOUGH);
         assert_eq!(
             reply.word == word::YES,

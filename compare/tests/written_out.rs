@@ -3,6 +3,7 @@
 
 use compare::{agree, inside, meet, Lent};
 use kneukelboom::lent::{line, word, Reply};
+use kneukelboom::{FARTHEST, ROW_WIDTH};
 
 const L: [i32; 6] = [0, 0, 4, 3, 8, 0];
 
@@ -85,7 +86,7 @@ fn bad_roots() -> Vec<(&'static str, Lent)> {
 /// The table with the range of that row made wrong.
 fn bad_at(points: &[i32], row: usize) -> Lent {
     let mut line = Lent::built(points);
-    line.table[11 * row] += 1;
+    line.table[ROW_WIDTH * row] += 1;
     line
 }
 
@@ -115,7 +116,7 @@ fn agree_checks_b_before_the_distance() {
     let (sound, bad_root) = (Lent::built(&L), bad_at(&L, 0));
     let mut off = Lent::built(&L);
     off.points[0] = 16_384;
-    for d in [-1, 32_768, i32::MIN, i32::MAX, 0, 32_767] {
+    for d in [-1, FARTHEST + 1, i32::MIN, i32::MAX, 0, FARTHEST] {
         for (number, a) in &unfit() {
             for (_, b) in &unfit() {
                 assert_eq!(agree(a, b, d, 9), refused(*number, line::LINE_A, 0, 0));

@@ -25,6 +25,7 @@
 
 use crate::answer::{Agreement, Answer, Side};
 use crate::refusal::{Name, Refusal};
+use crate::ROW_WIDTH;
 
 pub use crate::ffi::{agree, build, inside, meet, near};
 
@@ -47,12 +48,12 @@ pub mod line {
     pub const LINE_B: u32 = 2;
 }
 
-/// How many numbers the table of a line needs whose points are so many numbers: 11 * (2n-1) for n segments.
+/// How many numbers the table of a line needs whose points are so many numbers: 2n-1 rows for n segments.
 pub const fn table_len(points_len: usize) -> usize {
     if points_len < 4 {
         0
     } else {
-        11 * (points_len - 3)
+        ROW_WIDTH * (points_len - 3)
     }
 }
 

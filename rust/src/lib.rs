@@ -60,6 +60,8 @@ pub const MOST_POINTS: usize = 4_097;
 pub const SHEET: i32 = 16_383;
 /// Distances are 0 to 32,767.
 pub const FARTHEST: i32 = 32_767;
+/// Numbers of a table row.
+pub const ROW_WIDTH: usize = 11;
 
 /// The archive that was linked.
 #[doc(hidden)]
@@ -112,7 +114,7 @@ impl Line {
         &self.points
     }
 
-    /// The rows of the tree in preorder, 11 numbers each.
+    /// The rows of the tree in preorder, [`ROW_WIDTH`] numbers each.
     pub fn table(&self) -> &[i32] {
         &self.table
     }

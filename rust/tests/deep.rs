@@ -2,7 +2,7 @@
 //! together, on a program's usual 8 MiB. Nothing proves that a stack is deep enough; a walk that overflows ends
 //! this test's whole process.
 
-use kneukelboom::{lent, Answer, Line, Side};
+use kneukelboom::{lent, Answer, Line, Side, ROW_WIDTH, SHEET};
 
 const SEGMENTS: usize = 4_096;
 
@@ -13,12 +13,7 @@ fn on_a_stack_of(megabytes: usize, test: fn()) {
 
 /// Strokes from side to side, each shorter than the one before: every split is next to the first point.
 fn comb(count: usize) -> Vec<(i32, i32)> {
-    let stroke = |i: i32| {
-        (
-            i - 2_048,
-            (16_383 - 3 * i) * if i % 2 == 0 { 1 } else { -1 },
-        )
-    };
+    let stroke = |i: i32| (i - 2_048, (SHEET - 3 * i) * if i % 2 == 0 { 1 } else { -1 });
     (0..count as i32).map(stroke).collect()
 }
 
@@ -35,7 +30,7 @@ fn table_without_end(points: usize, split: fn(usize, usize) -> usize) -> Vec<i32
         let split = if is_leaf { -1 } else { middle as i32 };
         table.extend([first as i32, last as i32, split]);
         table.extend([i32::MIN, i32::MAX, i32::MIN, i32::MAX]);
-        table.extend([-16_383, 16_383, -16_383, 16_383]);
+        table.extend([-SHEET, SHEET, -SHEET, SHEET]);
     }
     table
 }
@@ -65,7 +60,7 @@ fn deepest_lines_are_built_and_asked() {
         for nested in ["right", "left"] {
             let line = Line::new(&points).unwrap();
             // Every second row is a leaf: the tree is as deep as it can be.
-            let leaves = line.table().chunks(11).skip(1).step_by(2);
+            let leaves = line.table().chunks(ROW_WIDTH).skip(1).step_by(2);
             if nested == "right" {
                 assert!(leaves.clone().all(|row| row[2] == -1));
             }

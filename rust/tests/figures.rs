@@ -1,7 +1,7 @@
 //! Document 01's figures, asked of the archive through the safe calls. P1 to P12 are theorems about the
 //! definitions; here the compiled code is held to them, and to the figures at each limit.
 
-use kneukelboom::{lent, Agreement, Answer, Line, Name, Refusal, Side};
+use kneukelboom::{lent, Agreement, Answer, Line, Name, Refusal, Side, ROW_WIDTH};
 
 fn l() -> Line {
     Line::new(&[(0, 0), (4, 3), (8, 0)]).expect("L is sound")
@@ -217,7 +217,7 @@ fn every_rule_for_rows_is_checked() {
                 continue;
             }
             let mut table = l.table().to_vec();
-            table[11 * row + column] = number;
+            table[ROW_WIDTH * row + column] = number;
             let refused = lent::near(l.points(), &table, z.0, z.1, 0, 9).answer();
             let expected = Refusal {
                 visits,

@@ -308,6 +308,20 @@ fn header_number(name: &str) -> u64 {
         .unwrap_or_else(|_| panic!("{name} is {number}"))
 }
 
+/// The number that a constant of the proved source has.
+fn constant(text: &str, name: &str) -> u64 {
+    let declared = format!("pub const {name}:");
+    let at = text
+        .find(&declared)
+        .unwrap_or_else(|| panic!("the source has no {name}"));
+    let (_, rest) = text[at..].split_once('=').unwrap();
+    let (number, _) = rest.split_once(';').unwrap();
+    number
+        .trim()
+        .parse()
+        .unwrap_or_else(|_| panic!("{name} is {number}"))
+}
+
 // ---- the tests
 
 #[test]
@@ -353,10 +367,6 @@ fn numbers_are_the_headers() {
         ("NO_LINE", line::NO_LINE),
         ("LINE_A", line::LINE_A),
         ("LINE_B", line::LINE_B),
-        ("FEWEST_POINTS", kneukelboom::FEWEST_POINTS as u32),
-        ("MOST_POINTS", kneukelboom::MOST_POINTS as u32),
-        ("SHEET", kneukelboom::SHEET as u32),
-        ("FARTHEST", kneukelboom::FARTHEST as u32),
     ] {
         assert_eq!(
             header_number(&format!("KNEUKELBOOM_{name}")),
@@ -364,8 +374,55 @@ fn numbers_are_the_headers() {
             "{name}"
         );
     }
-    assert!(header_text().contains("((points_len) < 4 ? 0 : 11 * ((points_len) - 3))"));
-    assert_eq!([3, 4, 6, 8_194].map(lent::table_len), [0, 11, 33, 90_101]);
+}
+
+#[test]
+fn limits_are_the_proved_sources() {
+    let limits = without_comments(&text("crates/limits/src/lib.rt"));
+    let columns = without_comments(&text("crates/limits/src/column.rt"));
+    for (proved, name, own) in [
+        (
+            constant(&limits, "FEWEST"),
+            "FEWEST_POINTS",
+            kneukelboom::FEWEST_POINTS,
+        ),
+        (
+            constant(&limits, "MOST"),
+            "MOST_POINTS",
+            kneukelboom::MOST_POINTS,
+        ),
+        (
+            constant(&limits, "LIMIT"),
+            "SHEET",
+            kneukelboom::SHEET as usize,
+        ),
+        (
+            constant(&limits, "FARTHEST"),
+            "FARTHEST",
+            kneukelboom::FARTHEST as usize,
+        ),
+        (
+            constant(&columns, "YMAX") + 1,
+            "ROW_WIDTH",
+            kneukelboom::ROW_WIDTH,
+        ),
+    ] {
+        assert_eq!(proved, own as u64, "{name}");
+        assert_eq!(
+            header_number(&format!("KNEUKELBOOM_{name}")),
+            proved,
+            "{name}"
+        );
+    }
+    assert!(limits.contains("pub const WIDTH: usize = column::YMAX + 1;"));
+    let lengths = "((points_len) < 4 ? 0 : KNEUKELBOOM_ROW_WIDTH * ((points_len) - 3))";
+    assert!(header_text().contains(lengths));
+    let rows = [0, 1, 3, 2 * (kneukelboom::MOST_POINTS - 1) - 1];
+    let numbers = [3, 4, 6, 2 * kneukelboom::MOST_POINTS];
+    assert_eq!(
+        numbers.map(lent::table_len),
+        rows.map(|rows| kneukelboom::ROW_WIDTH * rows)
+    );
 }
 
 /// The source as it should be, for the self-test: so it does not depend on the layout of the real one.
@@ -489,10 +546,7 @@ fn altered_header_is_found_out() {
                 "kneukelboom_reply kneukelboom_meet(",
                 "uint32_t kneukelboom_meet(",
             ),
-            (
-                "size_t table_len, int64_t x,",
-                "size_t table_len, uint64_t x,",
-            ),
+            ("int64_t x, int64_t y,", "uint64_t x, int64_t y,"),
             (
                 "int64_t y, int64_t distance,",
                 "int64_t distance, int64_t y,",

@@ -14,8 +14,10 @@ use std::io::{self, BufWriter, Write};
 
 use crate::geometry::{all_points, plain_astray, plain_near, Name, Point};
 use crate::program::{Program, Question, MOST_BYTES, MOST_STORED};
-use crate::tree::{on_sheet, SHEET};
+use crate::tree::{self, on_sheet, FARTHEST};
 use crate::walk::Answer;
+
+const SHEET: i64 = tree::SHEET as i64;
 
 /// Writes a question file with `count` questions. Files of odd seeds lack their last line feed.
 pub fn generate(seed: u64, count: u64, output: impl Write) -> io::Result<()> {
@@ -432,13 +434,13 @@ impl<W: Write> File<W> {
             self.random.pick(&places)
         };
         let reach = |side: fn(&Place) -> i64| {
-            let least = places.iter().map(side).min().unwrap_or(0).max(-16_383);
-            let greatest = places.iter().map(side).max().unwrap_or(0).min(16_383);
+            let least = places.iter().map(side).min().unwrap_or(0).max(-SHEET);
+            let greatest = places.iter().map(side).max().unwrap_or(0).min(SHEET);
             (least.min(greatest) - 2, greatest.max(least) + 2)
         };
         let (x, y) = (reach(|p| p.0), reach(|p| p.1));
         let anywhere = (self.random.between(x.0, x.1), self.random.between(y.0, y.1));
-        let edge = [-16_383, 0, 16_383];
+        let edge = [-SHEET, 0, SHEET];
         let over = [-16_384, 16_384, i64::from(i32::MIN), i64::from(i32::MAX)];
         let place = match self.random.between(0, 19) {
             0 | 1 => corner,
@@ -460,8 +462,8 @@ impl<W: Write> File<W> {
             }
             13 => (self.random.pick(&edge), self.random.pick(&edge)),
             14 => (
-                self.random.between(-16_383, 16_383),
-                self.random.between(-16_383, 16_383),
+                self.random.between(-SHEET, SHEET),
+                self.random.between(-SHEET, SHEET),
             ),
             15 => (self.random.pick(&over), anywhere.1),
             16 if self.random.one_in(2) => (anywhere.0, self.random.pick(&over)),
@@ -498,11 +500,11 @@ impl<W: Write> File<W> {
             5..=8 => least - 1,
             9 => 0,
             10 => self.random.between(1, 20) as i32,
-            11 => self.random.between(0, 32_767) as i32,
-            12 => 32_767,
+            11 => self.random.between(0, FARTHEST.into()) as i32,
+            12 => FARTHEST,
             13 => 32_768,
             14 => -1,
-            _ => self.random.pick(&[i32::MIN, i32::MAX, -32_767, 65_535]),
+            _ => self.random.pick(&[i32::MIN, i32::MAX, -FARTHEST, 65_535]),
         }
     }
 
@@ -516,7 +518,7 @@ impl<W: Write> File<W> {
                 let jittered = a.iter().map(|p| {
                     let x = i64::from(p.x) + self.random.between(-size, size);
                     let y = i64::from(p.y) + self.random.between(-size, size);
-                    as_point((x.clamp(-16_383, 16_383), y.clamp(-16_383, 16_383)))
+                    as_point((x.clamp(-SHEET, SHEET), y.clamp(-SHEET, SHEET)))
                 });
                 jittered.collect()
             }
@@ -556,15 +558,15 @@ impl<W: Write> File<W> {
             }
             Shape::LargeWalk => {
                 let count = self.random.between(3, 60);
-                self.wander(count, 16_383)
+                self.wander(count, SHEET)
             }
             Shape::SheetCorners => {
                 let count = self.random.between(2, 9);
                 let mut places: Vec<Place> = vec![];
                 while (places.len() as i64) < count {
                     let place = (
-                        self.random.pick(&[-16_383, 16_383, 0]),
-                        self.random.pick(&[-16_383, 16_383, 16_382]),
+                        self.random.pick(&[-SHEET, SHEET, 0]),
+                        self.random.pick(&[-SHEET, SHEET, SHEET - 1]),
                     );
                     push_new(&mut places, place);
                 }
@@ -700,9 +702,9 @@ impl<W: Write> File<W> {
                 let over = self.random.pick(&[-16_384, 16_384]);
                 let at = self.random.between(0, 5) as usize;
                 places[at] = if self.random.one_in(2) {
-                    (over, 16_383)
+                    (over, SHEET)
                 } else {
-                    (-16_383, over)
+                    (-SHEET, over)
                 };
                 return places.into_iter().map(as_point).collect();
             }
@@ -761,20 +763,19 @@ impl<W: Write> File<W> {
 
     /// Scales and moves a shape, as far as it fits, sometimes right into a corner of the sheet.
     fn on_the_sheet(&mut self, places: &[Place]) -> Vec<Point> {
-        let limit = i64::from(SHEET);
         let reach = places
             .iter()
             .map(|p| p.0.abs().max(p.1.abs()))
             .max()
             .unwrap_or(0)
             .max(1);
-        let fitting = (limit / reach).max(1);
+        let fitting = (SHEET / reach).max(1);
         let scale = match self.random.between(0, 5) {
             0 => fitting,
             1 => self.random.between(1, fitting),
             _ => 1,
         };
-        let room = limit - scale * reach;
+        let room = SHEET - scale * reach;
         let (right, up) = match self.random.between(0, 4) {
             0 if room > 0 => (
                 self.random.between(-room, room),
@@ -820,7 +821,7 @@ fn as_point(place: Place) -> Point {
 
 /// The least distance for which `yes` holds, 32,767 where none does; `yes` never turns back to no.
 fn least_distance(yes: impl Fn(i32) -> bool) -> i32 {
-    let (mut low, mut high) = (0, 32_767);
+    let (mut low, mut high) = (0, FARTHEST);
     while low < high {
         let middle = (low + high) / 2;
         if yes(middle) {
@@ -909,6 +910,6 @@ mod tests {
     fn least_distance_is_the_first_that_says_yes() {
         assert_eq!(least_distance(|d| d >= 1358), 1358);
         assert_eq!(least_distance(|_| true), 0);
-        assert_eq!(least_distance(|_| false), 32_767);
+        assert_eq!(least_distance(|_| false), FARTHEST);
     }
 }

@@ -8,6 +8,8 @@ use crate::geometry::{all_points, point, Name, Point};
 
 /// Coordinates go from -SHEET to SHEET.
 pub const SHEET: i32 = 16_383;
+/// Distances go from 0 to FARTHEST.
+pub const FARTHEST: i32 = 32_767;
 /// Numbers in a table row: first, last, split, then least and greatest of c, t, x and y.
 pub const ROW: usize = 11;
 pub const MOST_POINTS: usize = 4_097;

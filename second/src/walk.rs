@@ -8,7 +8,9 @@
 use crate::geometry::{
     all_points, crosses, on_segment, point, share_point, within, Name, Point, Segment,
 };
-use crate::tree::{check_points, check_table, on_sheet, Extents, Frame, Refusal, Span, ROW, SHEET};
+use crate::tree::{
+    check_points, check_table, on_sheet, Extents, Frame, Refusal, Span, FARTHEST, ROW, SHEET,
+};
 
 /// What a question is answered with.
 #[derive(Clone, Copy, PartialEq, Eq, Debug)]
@@ -109,7 +111,7 @@ fn yes_or_no(found: bool) -> Answer {
 
 /// Refusal 7.
 fn check_distance(d: i32) -> Result<(), Refusal> {
-    if (0..=32_767).contains(&d) {
+    if (0..=FARTHEST).contains(&d) {
         Ok(())
     } else {
         Err(Refusal {

@@ -1,11 +1,11 @@
 // AGREE: whether each point of one line is near the other line, both ways round. The checks in their order, then the
 // walks; the answer is that of `rules`, for all numbers that the slices can hold.
 use line::Checked;
-use rules::Agreement;
 use rules::Line;
+use rules::Reply;
 use rules::Tally;
+use rules::refuses;
 ghost use mathlib.Core.Path.{_≡_};
-ghost use Rattle.rules.specs.Reply.{agreementReply};
 ghost use Rattle.rules.specs.Questions.{agreeReply};
 
 // Whether two lines agree at a distance: refusals 1, 2, 3, 6 of A, then of B, then 7, then the walks.
@@ -16,19 +16,20 @@ pub fn agree(
     table_b: &[i32],
     distance: i64,
     allowance: u32,
-) -> Agreement
-    ensures { λ r. ⌜ agreementReply r ≡ agreeReply (now («points_a» .entry)) (now («table_a» .entry)) (now («points_b» .entry)) (now («table_b» .entry)) distance allowance ⌝ }
+) -> Reply
+    ensures { λ r. ⌜ r ≡ agreeReply (now («points_a» .entry)) (now («table_a» .entry))
+        (now («points_b» .entry)) (now («table_b» .entry)) distance allowance ⌝ }
 {
     let checked_a = line::check_lengths(Line::LineA, points_a, table_a);
     if let Checked::Refused(refusal) = checked_a {
-        return Agreement::Refused(refusal);
+        return refuses(refusal);
     }
     let checked_b = line::check_lengths(Line::LineB, points_b, table_b);
     if let Checked::Refused(refusal) = checked_b {
-        return Agreement::Refused(refusal);
+        return refuses(refusal);
     }
     if !reach::distance_fits(distance) {
-        return Agreement::Refused(line::early(7, Line::NoLine));
+        return refuses(line::early(7, Line::NoLine));
     }
     let fresh = Tally {
         allowance,
@@ -39,10 +40,10 @@ pub fn agree(
         return agree_walk::agreement(Line::LineA, Line::LineB, met, allowance);
     }
     let a = agree_walk::ask_all(points_a, &points_b, &table_b, distance, fresh);
-    if ends::end_in(a.came) != ends::ENDED {
+    if ending::end_in(a.ending) != ending::ENDED {
         return agree_walk::agreement(Line::LineA, Line::LineB, a, allowance);
     }
-    let rest = ends::tally_in(allowance, a.came);
+    let rest = ending::tally_in(allowance, a.ending);
     if !row::ends_on_sheet(points_a) {
         let met = agree_walk::bad_start(points_b, rest);
         return agree_walk::agreement(Line::LineB, Line::LineA, met, allowance);

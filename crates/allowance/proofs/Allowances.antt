@@ -1,18 +1,15 @@
--- What follows for any question that is decided: once an allowance brings an answer or a refusal, every larger one brings
--- the same; Undecided comes exactly below the visits that the walk needs, and never where enough are allowed.
+-- What follows for any question that is decided: once an allowance brings an answer or a refusal, every larger one
+-- brings the same; Undecided comes exactly below the visits that the walk needs, and never where enough are allowed.
 use mathlib.Core.Path.{_≡_, sym, _∙_, ap}
 use mathlib.Core.Logic.{_↔_, _≢_}
 use Prim.Native.Nat.{ℕ, _≤_, _<_}
-use native.Mathlib.Nat.{le-refl, le-antisymm}
 use native.Mathlib.Omega.{arith}
-use Rattle.rules.specs.Reply.{Reply, UNDECIDED, says}
+use Rattle.rules.specs.declared.Word.the-variants.{UNDECIDED}
+use Rattle.rules.specs.declared.Reply.{Reply}
+use Rattle.rules.specs.Reply.{says}
 use Rattle.allowance.specs.Decides.{Decides}
 
 module _ {reply : ℕ → Reply} {enough : ℕ} (d : Decides reply enough) where
-  -- enough visits bring the answer
-  pub enough-suffices : (a : ℕ) → enough ≤ a → reply a ≡ d .answer
-  enough-suffices a h = d .given a (omega arith)
-
   -- the visits that the walk needs bring it
   needs-suffice : (a : ℕ) → d .needs ≤ a → reply a .word ≢ UNDECIDED
   needs-suffice a h e = d .decided (sym (ap (λ r. r .word) (d .given a (omega arith))) ∙ e)
@@ -34,12 +31,5 @@ module _ {reply : ℕ → Reply} {enough : ℕ} (d : Decides reply enough) where
 
   -- once one allowance brings an answer or a refusal, every larger one brings the same, after the same number of visits
   pub more-allowance-same-answer : (a b : ℕ) → reply a .word ≢ UNDECIDED → a ≤ b → reply b ≡ reply a
-  more-allowance-same-answer a b h l = let n = needs-least a h in d .given b (omega arith) ∙ sym (d .given a (omega arith))
-
--- a question is decided in one way: no two numbers of visits, and no two answers
-pub one-decision : {reply : ℕ → Reply} {most more : ℕ} (d : Decides reply most) (e : Decides reply more)
-    → (d .needs ≡ e .needs) × (d .answer ≡ e .answer)
-one-decision d e =
-    let l = needs-least d (e .needs) (needs-suffice e (e .needs) (le-refl _)) in
-    let g = needs-least e (d .needs) (needs-suffice d (d .needs) (le-refl _)) in
-    (le-antisymm l g, sym (d .given (e .needs) (omega arith)) ∙ e .given (e .needs) (omega arith))
+  more-allowance-same-answer a b h l =
+      let n = needs-least a h in d .given b (omega arith) ∙ sym (d .given a (omega arith))

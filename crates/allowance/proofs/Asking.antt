@@ -2,7 +2,7 @@
 use mathlib.Core.Path.{_≡_, refl}
 use mathlib.Core.Bool.{Bool, true, false, cond}
 use mathlib.Core.List.{List}
-use Prim.Native.Nat.{ℕ, zero, suc, _+_, _*_, _-_, _≤_}
+use Prim.Native.Nat.{ℕ, zero, suc, _+_, _*_, _≤_}
 use native.Mathlib.Nat.{suc-mul, sub-zero, le-of-eq}
 use native.Mathlib.Omega.{arith}
 use lib.IntN.{ℤ}
@@ -12,7 +12,8 @@ use Rattle.rules.specs.declared.Point.{Point}
 use Rattle.rules.specs.declared.Tally.{Tally}
 use Rattle.rules.specs.Sheet.{point, pointsOf, segmentsOf, onSheet}
 use Rattle.rules.specs.Walk.{Walked, spent}
-use Rattle.rules.specs.Questions.{root, Nothing, nearWalk, inWalk, meetWalk, Asked, allNear, notNear, unasked, faulted, onNear, askAll, onAllNear, agreeWalk}
+use Rattle.rules.specs.Questions.{root, Nothing, nearWalk, inWalk, meetWalk}
+use Rattle.rules.specs.Questions.{Asked, allNear, notNear, unasked, faulted, onNear, askAll, onAllNear, agreeWalk}
 use Rattle.allowance.specs.Enough.{pointEnough, pairEnough, agreeEnough}
 use Rattle.allowance.proofs.Needs.{Needs, Settled, at-once-settled, loosely-settled, read-settled, then-settled}
 use Rattle.allowance.proofs.Walks.{Outcome, hit, through, fault, told, walk-settled}
@@ -34,8 +35,8 @@ pub meet-settled : (ps t qs t′ : List ℤ) → 1 ≤ segmentsOf ps → 1 ≤ s
     → Settled spent told (meetWalk ps t qs t′) (pairEnough ps qs)
 meet-settled ps t qs t′ h k =
     loosely-settled
-    (walk-settled (meet-halves ps t qs t′) (segmentsOf ps + segmentsOf qs) (record { a = root ps; b = root qs }) tt (omega arith))
-    (le-of-eq (simp sub-zero))
+    (walk-settled (meet-halves ps t qs t′) (segmentsOf ps + segmentsOf qs) (record { a = root ps; b = root qs }) tt
+    (omega arith)) (le-of-eq (simp sub-zero))
 
 -- what asking points comes to, but for its visits
 pub data Findings : Type 0 where
@@ -46,22 +47,25 @@ pub data Findings : Type 0 where
 abbrev pub found : Findings → Tally → Asked
 found everyNear y = allNear y
 found (farOff l i) y = notNear l i y
-found (faulty number line place) y = faulted (record { number = number; line = line; place = place; visits = y .visits })
+found (faulty number line place) y =
+    faulted (record { number = number; line = line; place = place; visits = y .visits })
 
 -- points asked one after the other: the next ones are asked where this one is near
-point-settled : (l : Line) (i : ℕ) {go : Tally → Walked Nothing} {rest : Tally → Asked} {a b : ℕ} → Settled spent told go a
-    → Settled unasked found rest b → Settled unasked found (λ y. onNear l i (go y) rest) (a + b)
+point-settled : (l : Line) (i : ℕ) {go : Tally → Walked Nothing} {rest : Tally → Asked} {a b : ℕ}
+    → Settled spent told go a → Settled unasked found rest b
+    → Settled unasked found (λ y. onNear l i (go y) rest) (a + b)
 point-settled l i {go} {rest} {a} {b} w next = join (w .outcome) (w .exact)
   where
-    join : (o : Outcome Nothing) → Needs spent go (told o) (w .needs) → Settled unasked found (λ y. onNear l i (go y) rest) (a + b)
+    join : (o : Outcome Nothing) → Needs spent go (told o) (w .needs)
+        → Settled unasked found (λ y. onNear l i (go y) rest) (a + b)
     join hit e = then-settled (λ m. onNear l i m rest) refl e (λ y. refl) (w .bounded) next
     join (through s) e = read-settled (λ m. onNear l i m rest) refl e (farOff l i) (λ y. refl) (omega arith)
     join (fault number line place) e =
         read-settled (λ m. onNear l i m rest) refl e (faulty number line place) (λ y. refl) (omega arith)
 
 -- what goes by a test is settled where both ways are
-cond-settled : (b : Bool) {go go′ : Tally → Asked} {most : ℕ} → Settled unasked found go most → Settled unasked found go′ most
-    → Settled unasked found (λ y. cond b (go y) (go′ y)) most
+cond-settled : (b : Bool) {go go′ : Tally → Asked} {most : ℕ} → Settled unasked found go most
+    → Settled unasked found go′ most → Settled unasked found (λ y. cond b (go y) (go′ y)) most
 cond-settled true w w′ = w
 cond-settled false w w′ = w′
 
@@ -81,7 +85,8 @@ both-asked : {go rest : Tally → Asked} {a b : ℕ} → Settled unasked found g
     → Settled unasked found (λ y. onAllNear (go y) rest) (a + b)
 both-asked {go} {rest} {a} {b} w next = join (w .outcome) (w .exact)
   where
-    join : (o : Findings) → Needs unasked go (found o) (w .needs) → Settled unasked found (λ y. onAllNear (go y) rest) (a + b)
+    join : (o : Findings) → Needs unasked go (found o) (w .needs)
+        → Settled unasked found (λ y. onAllNear (go y) rest) (a + b)
     join everyNear e = then-settled (λ m. onAllNear m rest) refl e (λ y. refl) (w .bounded) next
     join (farOff l i) e = read-settled (λ m. onAllNear m rest) refl e (farOff l i) (λ y. refl) (omega arith)
     join (faulty number line place) e =
@@ -93,7 +98,8 @@ pub agree-settled : (ps t qs t′ : List ℤ) (D : ℤ) → 1 ≤ segmentsOf ps 
 unfolding agreeWalk
 agree-settled ps t qs t′ D h k =
     loosely-settled
-    (both-asked (ask-settled LineA ps LineB qs t′ D 0 (pointsOf ps) k) (ask-settled LineB qs LineA ps t D 0 (pointsOf qs) h))
+    (both-asked (ask-settled LineA ps LineB qs t′ D 0 (pointsOf ps) k)
+    (ask-settled LineB qs LineA ps t D 0 (pointsOf qs) h))
     (le-of-eq (λ i. one-more ps h i * pointEnough qs + one-more qs k i * pointEnough ps))
   where
     -- points are segments and one

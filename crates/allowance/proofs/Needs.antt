@@ -5,7 +5,7 @@ use Prim.Native.Nat.{ℕ, _+_, _≤_, _<_}
 use native.Mathlib.Nat.{add-assoc, add-zero}
 use native.Mathlib.Decide.{decLe}
 use native.Mathlib.Omega.{arith}
-use Rattle.whole.specs.Laws.{cond-ind}
+use Rattle.integers.specs.Laws.{cond-ind}
 use lib.Dec.{ltb, ltb→lt, nltb→le}
 use Rattle.rules.specs.declared.Tally.{Tally}
 use Rattle.rules.specs.declared.Next.the-variants.{Left, Spent}
@@ -56,7 +56,10 @@ module _ {R R′ : Type 0} {stop : R} {stop′ : R′} {go end : Tally → R} {k
   pub read-needs : {end′ : Tally → R′} (on : R → R′) → on stop ≡ stop′ → ((y : Tally) → on (end y) ≡ end′ y)
       → Needs stop go end k → Needs stop′ (λ y. on (go y)) end′ k
   read-needs on stops reads a =
-      record { given = λ y h. ap on (a .given y h) ∙ reads (after k y); short = λ y h l. ap on (a .short y h l) ∙ stops }
+      record {
+        given = λ y h. ap on (a .given y h) ∙ reads (after k y);
+        short = λ y h l. ap on (a .short y h l) ∙ stops;
+      }
 
 -- what has an outcome, after at most so many visits; `told` tells an outcome with the tally at its end
 pub record Settled {R O : Type 0} (stop : R) (told : O → Tally → R) (go : Tally → R) (most : ℕ) : Type 0 where
@@ -77,7 +80,8 @@ module _ {R O : Type 0} {stop : R} {told : O → Tally → R} where
   module _ {R′ : Type 0} {stop′ : R′} {go end : Tally → R′} {k : ℕ} (on : R′ → R) (stops : on stop′ ≡ stop)
       (a : Needs stop′ go end k) where
     -- what reads the end of another as an outcome is settled with it
-    pub read-settled : (o : O) {most : ℕ} → ((y : Tally) → on (end y) ≡ told o y) → k ≤ most → Settled stop told (λ y. on (go y)) most
+    pub read-settled : (o : O) {most : ℕ} → ((y : Tally) → on (end y) ≡ told o y) → k ≤ most
+        → Settled stop told (λ y. on (go y)) most
     read-settled o reads h = record { outcome = o; needs = k; bounded = h; exact = read-needs on stops reads a }
 
     -- what goes on from the end of another is settled by the visits of both

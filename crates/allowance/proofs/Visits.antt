@@ -3,12 +3,12 @@
 use mathlib.Core.Path.{_≡_, sym, _∙_, ap}
 use mathlib.Core.Bool.{Bool, not, cond, _&&_, _||_}
 use mathlib.Core.List.{List}
-use Prim.Native.Nat.{ℕ, zero, suc, _+_, _*_, _≤_, _<_}
+use Prim.Native.Nat.{ℕ, suc, _+_, _*_, _≤_, _<_}
 use native.Mathlib.Nat.{add-mul, mul-add, mul-pos, le-of-eq}
 use native.Mathlib.Omega.{arith}
 use lib.Dec.{T, leb, leb→le, nleb→lt}
 use lib.IntN.{ℤ}
-use Rattle.whole.specs.Laws.{cond-ind}
+use Rattle.integers.specs.Laws.{cond-ind}
 use Rattle.rules.specs.declared.Line.{Line}
 use Rattle.rules.specs.declared.Line.the-variants.{LineA, LineB}
 use Rattle.rules.specs.declared.Node.{Node}
@@ -16,11 +16,13 @@ use Rattle.rules.specs.declared.Pair.{Pair}
 use Rattle.rules.specs.declared.Point.{Point}
 use Rattle.rules.specs.Sheet.{segmentsOf}
 use Rattle.rules.specs.Tree.{rowAt, rowCount}
-use Rattle.rules.specs.Plain.{within, share, onSegment}
+use Rattle.rules.specs.Plain.{within, onSegment, crosses}
 use Rattle.rules.specs.Rows.{good}
 use Rattle.rules.specs.Walk.{Visit, halve}
-use Rattle.rules.specs.Questions.{leftOf, rightOf, leaf, size, splitIn, readRow, openNode, startOf, endOf, headingOf, farFrom, nearVisit, apart, meetVisit, clearOf, inVisit}
-use Rattle.visits.proofs.Nodes.{good-read, larger-opens}
+use Rattle.rules.specs.Questions.{leftOf, rightOf, leaf, size, splitIn, readRow, openNode, startOf, endOf, headingOf}
+use Rattle.rules.specs.Questions.{farFrom, nearVisit, meetVisit, clearOf, count, inVisit}
+use Rattle.visits.proofs.Nodes.{good-read, larger-opens, other-opens}
+use Rattle.visits.proofs.Visits.{nodeVisit, withA, withB, pairApart, pairShares}
 use Rattle.allowance.proofs.Walks.{Shares, refuses, finishes, passes, halves, Halving}
 
 module _ {S N : Type 0} {Fine : ℕ → N → Type 0} {parts : N → ℕ} {f : ℕ} {n : N} where
@@ -39,11 +41,11 @@ module _ {S N : Type 0} {Fine : ℕ → N → Type 0} {parts : N → ℕ} {f : �
   shares-open : {x : Visit S N} (l : Line) (ps : List ℤ) (m : Node) (s : ℕ) → Shares Fine parts f n x
       → Shares Fine parts f n (openNode l ps m s (λ a b. x))
   shares-open l ps m s h =
-      shares-cond (leb (rowCount (segmentsOf ps)) (leftOf m s .row) || leb (rowCount (segmentsOf ps)) (rightOf m s .row))
-      (λ _. refuses) (λ _. h)
+      let rows = rowCount (segmentsOf ps) in
+      shares-cond (leb rows (leftOf m s .row) || leb rows (rightOf m s .row)) (λ _. refuses) (λ _. h)
 
 -- a node of at least one segment, and of at most this many
-abbrev pub Spans : ℕ → Node → Type 0
+abbrev Spans : ℕ → Node → Type 0
 Spans f n = (n .first < n .last) × (n .last ≤ f + n .first)
 
 -- a split strictly between first and last
@@ -53,63 +55,45 @@ Between n s = (n .first < s) × (s < n .last)
 -- so a good row of more than one segment splits
 good-between : (ps t : List ℤ) (n : Node) → T (good ps (rowAt t (n .row)) (n .first) (n .last)) → n .first + 1 < n .last
     → Between n (splitIn (rowAt t (n .row)))
-good-between ps t n g l = good-read ps (rowAt t (n .row)) (n .first) (n .last) g .split-between l
+good-between ps t n g l =
+    let i = good-read ps (rowAt t (n .row)) (n .first) (n .last) g .split-between l in (i .above, i .below)
 
--- the visit of a node that is neither dismissed nor a leaf
-open-halves : {S : Type 0} (l : Line) (f : ℕ) (ps t : List ℤ) (n : Node) → Spans (suc f) n
-    → T (good ps (rowAt t (n .row)) (n .first) (n .last)) → T (not (leaf n))
-    → Shares {S = S} Spans size f n (openNode l ps n (splitIn (rowAt t (n .row))) halve)
-open-halves l f ps t n h g e =
-    let s = splitIn (rowAt t (n .row)) in
-    let b : Between n s = good-between ps t n g (nleb→lt _ _ e) in
-    shares-open l ps n s (halves (leftOf n s) (rightOf n s) (omega arith) (omega arith) (omega arith))
+-- NEAR's and IN's visits halve a node's segments
+node-halves : {S : Type 0} (l : Line) (ps t : List ℤ) (dismissed exact : Node → Bool) (h : Node → S → S)
+    → Halving Spans size (λ n. nodeVisit l ps t n (dismissed n) (exact n) (h n))
+node-halves l ps t dismissed exact h = record {
+  no-level = λ n k. omega arith;
+  some-part = λ f n k. omega arith;
+  shares = λ f n k.
+      shares-row l ps t n λ g.
+      shares-cond (dismissed n) (λ _. passes) λ _.
+      shares-cond (leaf n) (λ _. shares-cond (exact n) (λ _. finishes) (λ _. passes)) λ e.
+      let s = splitIn (rowAt t (n .row)) in
+      let b : Between n s = good-between ps t n g (nleb→lt _ _ e) in
+      shares-open l ps n s (halves (leftOf n s) (rightOf n s) (omega arith) (omega arith) (omega arith));
+}
 
-spans-level : (n : Node) → Spans zero n → ⊥
-spans-level n h = omega arith
-
-spans-part : (f : ℕ) (n : Node) → Spans f n → 1 ≤ size n
-spans-part f n h = omega arith
-
--- NEAR's visits halve a node's segments
 pub near-halves : (l : Line) (ps t : List ℤ) (z : Point) (D : ℤ) → Halving Spans size (nearVisit l ps t z D)
 unfolding nearVisit
-near-halves l ps t z D = record {
-  no-level = spans-level;
-  some-part = spans-part;
-  shares = λ f n h.
-      shares-row l ps t n λ g.
-      shares-cond (farFrom (rowAt t (n .row)) (startOf ps n) (headingOf ps n) z D) (λ _. passes) λ _.
-      shares-cond (leaf n) (λ _. shares-cond (within z (startOf ps n) (endOf ps n) D) (λ _. finishes) (λ _. passes)) λ e.
-      open-halves l f ps t n h g e;
-}
+near-halves l ps t z D =
+    node-halves l ps t (λ n. farFrom (rowAt t (n .row)) (startOf ps n) (headingOf ps n) z D)
+    (λ n. within z (startOf ps n) (endOf ps n) D) (λ n k. k)
 
--- IN's visits too
 pub in-halves : (ps t : List ℤ) (z : Point) → Halving Spans size (inVisit ps t z)
 unfolding inVisit
-in-halves ps t z = record {
-  no-level = spans-level;
-  some-part = spans-part;
-  shares = λ f n h.
-      shares-row LineA ps t n λ g.
-      shares-cond (clearOf (rowAt t (n .row)) (startOf ps n) (headingOf ps n) z) (λ _. passes) λ _.
-      shares-cond (leaf n) (λ _. shares-cond (onSegment z (startOf ps n) (endOf ps n)) (λ _. finishes) (λ _. passes)) λ e.
-      open-halves LineA f ps t n h g e;
-}
+in-halves ps t z =
+    node-halves LineA ps t (λ n. clearOf (rowAt t (n .row)) (startOf ps n) (headingOf ps n) z)
+    (λ n. onSegment z (startOf ps n) (endOf ps n)) (λ n. count (crosses z (startOf ps n) (endOf ps n)))
 
 -- a pair of nodes of at least one segment each, and of at most this many together
-abbrev pub PairSpans : ℕ → Pair → Type 0
+abbrev PairSpans : ℕ → Pair → Type 0
 PairSpans f n =
-    (n .a .first < n .a .last) × (n .b .first < n .b .last) × (n .a .last + n .b .last ≤ f + (n .a .first + n .b .first))
+    (n .a .first < n .a .last) × (n .b .first < n .b .last)
+    × (n .a .last + n .b .last ≤ f + (n .a .first + n .b .first))
 
 -- the pairs of segments of a pair of nodes
-abbrev pub pairs : Pair → ℕ
+abbrev pairs : Pair → ℕ
 pairs n = size (n .a) * size (n .b)
-
-abbrev withA : Pair → Node → Pair
-withA n m = record { a = m; b = n .b }
-
-abbrev withB : Pair → Node → Pair
-withB n m = record { a = n .a; b = m }
 
 -- the halves of a node share its segments; so the halves of a pair, whichever of its nodes is split, share its pairs
 sizes : (n : Node) (s : ℕ) → Between n s → size (leftOf n s) + size (rightOf n s) ≡ size n
@@ -136,14 +120,14 @@ meet-halves ps t qs t′ = record {
   shares = λ f n h.
       shares-row LineA ps t (n .a) λ g.
       shares-row LineB qs t′ (n .b) λ g′.
-      shares-cond
-      (apart (rowAt t (n .a .row)) (startOf ps (n .a)) (headingOf ps (n .a)) (rowAt t′ (n .b .row)) (startOf qs (n .b)) (headingOf qs (n .b)))
-      (λ _. passes) λ _.
+      shares-cond (pairApart ps t qs t′ n) (λ _. passes) λ _.
       shares-cond (leaf (n .a) && leaf (n .b))
-      (λ _. shares-cond (share (startOf ps (n .a)) (endOf ps (n .a)) (startOf qs (n .b)) (endOf qs (n .b))) (λ _. finishes) (λ _. passes)) λ e.
+      (λ _. shares-cond (pairShares ps qs n) (λ _. finishes) (λ _. passes)) λ e.
       shares-cond (leb (size (n .b)) (size (n .a)))
-      (λ k. shares-open LineA ps (n .a) _ (a-halves f n _ h (good-between ps t (n .a) g (larger-opens (n .a) (n .b) e (leb→le _ _ k)))))
       (λ k.
-      let l = nleb→lt (size (n .b)) (size (n .a)) k in
-      shares-open LineB qs (n .b) _ (b-halves f n _ h (good-between qs t′ (n .b) g′ (omega arith))));
+      let more = larger-opens (n .a) (n .b) e (leb→le (size (n .b)) (size (n .a)) k) in
+      shares-open LineA ps (n .a) _ (a-halves f n _ h (good-between ps t (n .a) g more)))
+      (λ k.
+      let more = other-opens (n .a) (n .b) e (nleb→lt (size (n .b)) (size (n .a)) k) in
+      shares-open LineB qs (n .b) _ (b-halves f n _ h (good-between qs t′ (n .b) g′ more)));
 }

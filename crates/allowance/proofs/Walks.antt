@@ -6,8 +6,10 @@ use native.Mathlib.Nat.{le-refl}
 use native.Mathlib.Omega.{arith}
 use Rattle.rules.specs.declared.Line.{Line}
 use Rattle.rules.specs.declared.Tally.{Tally}
-use Rattle.rules.specs.Walk.{next, Visit, refuse, finish, pass, halve, Walked, ended, over, spent, refused, onVisit, goOn, onStep, walk}
-use Rattle.allowance.proofs.Needs.{Needs, next-needs, Settled, at-once-settled, loosely-settled, read-settled, then-settled}
+use Rattle.rules.specs.Walk.{next, Visit, refuse, finish, pass, halve, Walked, ended, over, spent, refused}
+use Rattle.rules.specs.Walk.{onVisit, goOn, onStep, walk}
+use Rattle.allowance.proofs.Needs.{Needs, next-needs, Settled, at-once-settled, loosely-settled}
+use Rattle.allowance.proofs.Needs.{read-settled, then-settled}
 
 -- what a walk comes to, but for its visits
 pub data Outcome (S : Type 0) : Type 0 where
@@ -33,7 +35,8 @@ both-settled {S} {go} {rest} {a} {b} w ws = join (w .outcome) (w .exact)
     join : (o : Outcome S) → Needs spent go (told o) (w .needs) → Settled spent told (λ y. goOn (go y) rest) (a + b)
     join hit e = read-settled (λ m. goOn m rest) refl e hit (λ y. refl) (omega arith)
     join (through s) e = then-settled (λ m. goOn m rest) refl e (λ y. refl) (w .bounded) (ws s)
-    join (fault number line place) e = read-settled (λ m. goOn m rest) refl e (fault number line place) (λ y. refl) (omega arith)
+    join (fault number line place) e =
+        read-settled (λ m. goOn m rest) refl e (fault number line place) (λ y. refl) (omega arith)
 
 module _ {S N : Type 0} (Fine : ℕ → N → Type 0) (parts : N → ℕ) where
   -- what a visit of n does, where the halves that it hands on are fine with this many levels, and share the parts of n
@@ -49,7 +52,8 @@ module _ {S N : Type 0} (Fine : ℕ → N → Type 0) (parts : N → ℕ) where
     pub some-part : (f : ℕ) (n : N) → Fine f n → 1 ≤ parts n
     pub shares : (f : ℕ) (n : N) → Fine (suc f) n → Shares f n (visit n)
 
-module _ {S N : Type 0} {visit : N → Visit S N} {Fine : ℕ → N → Type 0} {parts : N → ℕ} (h : Halving Fine parts visit) where
+module _ {S N : Type 0} {visit : N → Visit S N} {Fine : ℕ → N → Type 0} {parts : N → ℕ}
+    (h : Halving Fine parts visit) where
   -- what one visit does, and the walks of the halves that it hands on
   step-settled : (f : ℕ) (n : N) (s : S) {v : Visit S N} → Shares Fine parts f n v
       → ((m : N) (s′ : S) → Fine f m → Settled spent told (walk visit f m s′) (2 * parts m - 1))
@@ -59,7 +63,8 @@ module _ {S N : Type 0} {visit : N → Visit S N} {Fine : ℕ → N → Type 0} 
   step-settled f n s finishes ih = at-once-settled hit
   step-settled f n s (passes {g}) ih = at-once-settled (through (g s))
   step-settled f n s (halves l r p q e) ih =
-      loosely-settled (both-settled (ih l s p) (λ s′. ih r s′ q)) (omega (arith, h .some-part f l p, h .some-part f r q))
+      loosely-settled (both-settled (ih l s p) (λ s′. ih r s′ q))
+      (omega (arith, h .some-part f l p, h .some-part f r q))
 
   -- a walk of a node of k parts is settled by 2k - 1 visits
   pub walk-settled : (f : ℕ) (n : N) (s : S) → Fine f n → Settled spent told (walk visit f n s) (2 * parts n - 1)

@@ -1,124 +1,132 @@
-// The four questions of the question program, over the stores of its lines. Each question readies its tables; where
-// they stand ready it is asked of the points and of just their rows, and else what was refused is told.
+// What a record is answered, asked as a question over the stores of the two lines: the tables that it needs are
+// readied; where they stand, it is asked of the points and of just their rows, and else what was refused is told.
 use desk::Held;
-use print::Said;
+use integers::wide;
+use ready::Needed;
 use ready::Readied;
+use ready::ready_for;
+use ready::refused;
+use ready::rows;
+use ready::stored;
 use rules::Line;
 use rules::Point;
+use rules::Reply;
+use words::Record;
 ghost use mathlib.Core.Path.{_≡_};
 ghost use lib.ListN.{length};
-ghost use Rattle.rules.specs.Questions.{nearReply, inReply, meetReply, agreeReply};
-ghost use Rattle.print.specs.Said.{saidReply};
-ghost use Rattle.desk.specs.Desk.{withTable};
+ghost use Rattle.rules.specs.Build.{tableOf};
 ghost use Rattle.desk.specs.Kept.{storeIn, Stored, tableRoom};
-ghost use Rattle.ready.specs.Readied.{withBoth};
-ghost use Rattle.ready.specs.Left.{tableAfter, secondAfter};
+ghost use Rattle.ready.specs.Readied.{HasRows};
+ghost use Rattle.ready.specs.Left.{firstAfter, secondAfter};
+ghost use Rattle.answers.specs.Asked.{neededBy, answerTo, replyTo};
 
-// NEAR of line A.
-pub fn near_said(
-    held: Held,
-    points: &[i32],
-    table: &mut [i32],
-    place: usize,
-    z: Point,
-    distance: i64,
-    allowance: u32,
-) -> Said
-    requires { ⌜ Stored held (now points) × (length (now table) ≡ tableRoom) ⌝ }
-    ensures { λ r. ⌜ saidReply r ≡ withTable Line.LineA (storeIn held (now (points .entry))) place (λ t. nearReply (storeIn held (now (points .entry)) .points) t z distance allowance) ⌝ }
-    ensures { λ _. ⌜ now (table .exit) ≡ tableAfter (storeIn held (now (points .entry))) (now (table .entry)) ⌝ }
+// The tables that a record needs.
+fn needed_by(record: Record) -> Needed
+    ensures { λ r. ⌜ r ≡ neededBy «record» ⌝ }
 {
-    let readied = ready::ready(Line::LineA, held, points, table, place);
-    if let Readied::Told(said) = readied {
-        return said;
+    match record {
+        Record::Near { .. } => Needed::TableA,
+        Record::In { .. } => Needed::TableA,
+        Record::Meet(_) => Needed::BothTables,
+        Record::Agree { .. } => Needed::BothTables,
+        Record::Start(_) => Needed::NoTable,
+        Record::Pt(_, _) => Needed::NoTable,
+        Record::NotUnderstood => Needed::NoTable,
     }
-    let line = ready::stored(held, points);
-    print::of_answer(near::near(line, ready::rows(line, table), z, distance, allowance))
 }
 
-// IN of line A.
-pub fn inside_said(
-    held: Held,
-    points: &[i32],
-    table: &mut [i32],
-    place: usize,
-    z: Point,
-    allowance: u32,
-) -> Said
-    requires { ⌜ Stored held (now points) × (length (now table) ≡ tableRoom) ⌝ }
-    ensures { λ r. ⌜ saidReply r ≡ withTable Line.LineA (storeIn held (now (points .entry))) place (λ t. inReply (storeIn held (now (points .entry)) .points) t z allowance) ⌝ }
-    ensures { λ _. ⌜ now (table .exit) ≡ tableAfter (storeIn held (now (points .entry))) (now (table .entry)) ⌝ }
+// A point that is asked for.
+fn point(x: i32, y: i32) -> Point
+    ensures { λ r. ⌜ r ≡ record { x = x; y = y } ⌝ }
 {
-    let readied = ready::ready(Line::LineA, held, points, table, place);
-    if let Readied::Told(said) = readied {
-        return said;
+    Point {
+        x: wide(x),
+        y: wide(y),
     }
-    let line = ready::stored(held, points);
-    print::of_side(inside::inside(line, ready::rows(line, table), z, allowance))
 }
 
-// MEET of both lines.
-pub fn meet_said(
+// The reply, of the points of two lines and of just their rows; what is no question is refusal 12.
+fn ask(
+    record: Record,
+    place: usize,
+    a: &[i32],
+    table_a: &[i32],
+    b: &[i32],
+    table_b: &[i32],
+) -> Reply
+    requires { ⌜ HasRows (neededBy «record») (now a) (now «table_a») (now b) (now «table_b») ⌝ }
+    ensures { λ r. ⌜ r ≡ answerTo «record» place (now (a .entry)) (tableOf (now (a .entry)))
+        (now (b .entry)) (tableOf (now (b .entry))) ⌝ }
+{
+    match record {
+        Record::Near {
+            x,
+            y,
+            distance,
+            allowance,
+        } => near::near(a, rows(a, table_a), point(x, y), wide(distance), allowance),
+        Record::In { x, y, allowance } => inside::inside(
+            a,
+            rows(a, table_a),
+            point(x, y),
+            allowance,
+        ),
+        Record::Meet(allowance) => meet::meet(a, rows(a, table_a), b, rows(b, table_b), allowance),
+        Record::Agree {
+            distance,
+            allowance,
+        } => agree::agree(
+            a,
+            rows(a, table_a),
+            b,
+            rows(b, table_b),
+            wide(distance),
+            allowance,
+        ),
+        _ => refused(12, Line::NoLine, place, 0),
+    }
+}
+
+// The reply, of the stores of two lines; the tables are left as they are readied.
+pub fn reply(
+    record: Record,
+    place: usize,
     held_a: Held,
     points_a: &[i32],
     table_a: &mut [i32],
     held_b: Held,
     points_b: &[i32],
     table_b: &mut [i32],
-    place: usize,
-    allowance: u32,
-) -> Said
+) -> Reply
     requires { ⌜ Stored «held_a» (now «points_a») × (length (now «table_a») ≡ tableRoom) ⌝ }
     requires { ⌜ Stored «held_b» (now «points_b») × (length (now «table_b») ≡ tableRoom) ⌝ }
-    ensures { λ r. ⌜ saidReply r ≡ withBoth (storeIn «held_a» (now («points_a» .entry))) (storeIn «held_b» (now («points_b» .entry))) place (λ t t′. meetReply (storeIn «held_a» (now («points_a» .entry)) .points) t (storeIn «held_b» (now («points_b» .entry)) .points) t′ allowance) ⌝ }
-    ensures { λ _. ⌜ now («table_a» .exit) ≡ tableAfter (storeIn «held_a» (now («points_a» .entry))) (now («table_a» .entry)) ⌝ }
-    ensures { λ _. ⌜ now («table_b» .exit) ≡ secondAfter (storeIn «held_a» (now («points_a» .entry))) (storeIn «held_b» (now («points_b» .entry))) (now («table_a» .entry)) (now («table_b» .entry)) ⌝ }
+    ensures { λ r. ⌜ r ≡ replyTo «record» place (storeIn «held_a» (now («points_a» .entry)))
+        (storeIn «held_b» (now («points_b» .entry))) ⌝ }
+    ensures { λ _. ⌜ now («table_a» .exit) ≡ firstAfter (neededBy «record»)
+        (storeIn «held_a» (now («points_a» .entry))) (now («table_a» .entry)) ⌝ }
+    ensures { λ _. ⌜ now («table_b» .exit) ≡ secondAfter (neededBy «record»)
+        (storeIn «held_a» (now («points_a» .entry))) (storeIn «held_b» (now («points_b» .entry)))
+        (now («table_a» .entry)) (now («table_b» .entry)) ⌝ }
 {
-    let readied = ready::ready_both(held_a, points_a, table_a, held_b, points_b, table_b, place);
-    if let Readied::Told(said) = readied {
-        return said;
+    let readied = ready_for(
+        needed_by(record),
+        held_a,
+        points_a,
+        table_a,
+        held_b,
+        points_b,
+        table_b,
+        place,
+    );
+    if let Readied::Told(told) = readied {
+        return told;
     }
-    let a = ready::stored(held_a, points_a);
-    let b = ready::stored(held_b, points_b);
-    print::of_answer(meet::meet(
-        a,
-        ready::rows(a, table_a),
-        b,
-        ready::rows(b, table_b),
-        allowance,
-    ))
-}
-
-// AGREE of both lines.
-pub fn agree_said(
-    held_a: Held,
-    points_a: &[i32],
-    table_a: &mut [i32],
-    held_b: Held,
-    points_b: &[i32],
-    table_b: &mut [i32],
-    place: usize,
-    distance: i64,
-    allowance: u32,
-) -> Said
-    requires { ⌜ Stored «held_a» (now «points_a») × (length (now «table_a») ≡ tableRoom) ⌝ }
-    requires { ⌜ Stored «held_b» (now «points_b») × (length (now «table_b») ≡ tableRoom) ⌝ }
-    ensures { λ r. ⌜ saidReply r ≡ withBoth (storeIn «held_a» (now («points_a» .entry))) (storeIn «held_b» (now («points_b» .entry))) place (λ t t′. agreeReply (storeIn «held_a» (now («points_a» .entry)) .points) t (storeIn «held_b» (now («points_b» .entry)) .points) t′ distance allowance) ⌝ }
-    ensures { λ _. ⌜ now («table_a» .exit) ≡ tableAfter (storeIn «held_a» (now («points_a» .entry))) (now («table_a» .entry)) ⌝ }
-    ensures { λ _. ⌜ now («table_b» .exit) ≡ secondAfter (storeIn «held_a» (now («points_a» .entry))) (storeIn «held_b» (now («points_b» .entry))) (now («table_a» .entry)) (now («table_b» .entry)) ⌝ }
-{
-    let readied = ready::ready_both(held_a, points_a, table_a, held_b, points_b, table_b, place);
-    if let Readied::Told(said) = readied {
-        return said;
-    }
-    let a = ready::stored(held_a, points_a);
-    let b = ready::stored(held_b, points_b);
-    print::of_agreement(agree::agree(
-        a,
-        ready::rows(a, table_a),
-        b,
-        ready::rows(b, table_b),
-        distance,
-        allowance,
-    ))
+    ask(
+        record,
+        place,
+        stored(held_a, points_a),
+        table_a,
+        stored(held_b, points_b),
+        table_b,
+    )
 }

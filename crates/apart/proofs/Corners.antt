@@ -7,9 +7,9 @@ use lib.Dec.{T}
 use lib.IntN.{ℤ, _+ℤ_, _-ℤ_, _*ℤ_}
 use lib.Signed.{ltZ, _≤ℤ_, ltZ-yes, ≤ℤ-refl}
 use mir.Facts.{and-yes, yes-and}
-use Rattle.whole.specs.Laws.{cond-ind}
-use Rattle.whole.specs.Check.{_:+_, _:≤_, _:<_, _:=_, :neg, hyp, _⊞_, prove, ring}
-use Rattle.whole.specs.Order.{T-iff, minZ, maxZ, min-l, min-r, max-l, max-r}
+use Rattle.integers.specs.Laws.{cond-ind}
+use Rattle.integers.specs.Check.{_:+_, _:≤_, _:<_, _:=_, :neg, hyp, _⊞_, prove, ring}
+use Rattle.integers.specs.Order.{T-iff, minZ, maxZ, min-l, min-r, max-l, max-r}
 use Rattle.rules.specs.declared.Point.{Point}
 use Rattle.rules.specs.declared.Row.{Row}
 use Rattle.rules.specs.Plane.{cAt, tAt}
@@ -17,18 +17,22 @@ use Rattle.rules.specs.Questions.{beyondCorners}
 use Rattle.visits.proofs.Terms.{cE, tE}
 use Rattle.apart.specs.Turned.{turned}
 
--- ---------------- a test of the greater, or of the lesser, is one of both
+-- ---------------- a test of m, which is a or b and no easier to pass, is one of both: so of the greater, or the lesser
+both-of : (f : ℤ → Bool) (a b m : ℤ) → (T (f m) → T (f a)) → (T (f m) → T (f b)) → (T (f a) → T (f b) → T (f m))
+    → f m ≡ (f a && f b)
+both-of f a b m h k g =
+    T-iff (f m) (f a && f b) (λ t. yes-and (f a) (f b) (h t) (k t))
+    (λ t. let s = and-yes (f a) (f b) t in g (s .0) (s .1))
+
 max-both : (f : ℤ → Bool) → ((x y : ℤ) → x ≤ℤ y → T (f y) → T (f x)) → (a b : ℤ) → f (maxZ a b) ≡ (f a && f b)
 max-both f down a b =
-    T-iff (f (maxZ a b)) (f a && f b)
-    (λ t. yes-and (f a) (f b) (down a (maxZ a b) (max-l a b) t) (down b (maxZ a b) (max-r a b) t))
-    (λ t. let s = and-yes (f a) (f b) t in cond-ind (ltZ a b) b a (λ z. T (f z)) (λ _. s .1) (λ _. s .0))
+    both-of f a b (maxZ a b) (down a (maxZ a b) (max-l a b)) (down b (maxZ a b) (max-r a b))
+    (λ s t. cond-ind (ltZ a b) b a (λ z. T (f z)) (λ _. t) (λ _. s))
 
 min-both : (f : ℤ → Bool) → ((x y : ℤ) → x ≤ℤ y → T (f x) → T (f y)) → (a b : ℤ) → f (minZ a b) ≡ (f a && f b)
 min-both f up a b =
-    T-iff (f (minZ a b)) (f a && f b)
-    (λ t. yes-and (f a) (f b) (up (minZ a b) a (min-l a b) t) (up (minZ a b) b (min-r a b) t))
-    (λ t. let s = and-yes (f a) (f b) t in cond-ind (ltZ a b) a b (λ z. T (f z)) (λ _. s .0) (λ _. s .1))
+    both-of f a b (minZ a b) (up (minZ a b) a (min-l a b)) (up (minZ a b) b (min-r a b))
+    (λ s t. cond-ind (ltZ a b) a b (λ z. T (f z)) (λ _. s) (λ _. t))
 
 -- a test of both in each of its two places is one of all four
 all-four : (f : ℤ → ℤ → Bool) (a b m c d n : ℤ)

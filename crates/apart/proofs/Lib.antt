@@ -1,2 +1,3 @@
 -- Laws that the proofs of `apart` share.
+pub mod Stored
 pub mod Corners

@@ -1,9 +1,9 @@
 -- What the functions of `apart` may count on: sizes for which the machine's arithmetic is exact.
-use Rattle.whole.specs.Range.{Abs≤}
+use Rattle.integers.specs.Range.{Abs≤}
 use Rattle.rules.specs.declared.Point.{Point}
 use Rattle.rules.specs.declared.Row.{Row}
 use Rattle.rules.specs.Sheet.{limit}
-use Rattle.visits.specs.Small.{OnSheet, Small}
+use Rattle.limits.specs.Small.{OnSheet, Small}
 
 -- the box of a row is on the sheet
 pub record BoxOnSheet (r : Row) : Type 0 where

@@ -6,7 +6,7 @@ use line::step;
 use rules::Point;
 ghost use mathlib.Core.Path.{_≡_};
 ghost use Rattle.rules.specs.Plain.{rangesOverlap, boxesOverlap, oneSide, share};
-ghost use Rattle.visits.specs.Small.{OnSheet};
+ghost use Rattle.limits.specs.Small.{OnSheet};
 ghost use Rattle.apart.specs.Aside.{bothAside};
 
 fn ranges_overlap(a: i64, b: i64, c: i64, d: i64) -> bool
@@ -22,13 +22,13 @@ fn boxes_overlap(a: Point, b: Point, c: Point, d: Point) -> bool
 }
 
 // Whether two values of c are both above 0, or both below 0.
-fn one_side(p: i64, q: i64) -> bool
-    ensures { λ r. ⌜ r ≡ oneSide p q ⌝ }
+fn one_side(one: i64, other: i64) -> bool
+    ensures { λ r. ⌜ r ≡ oneSide one other ⌝ }
 {
-    if 0 < p {
-        return 0 < q;
+    if 0 < one {
+        return 0 < other;
     }
-    p < 0 && q < 0
+    one < 0 && other < 0
 }
 
 // Whether c and d lie on one side of the line through a and b.

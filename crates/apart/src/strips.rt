@@ -6,24 +6,24 @@ use rules::Row;
 ghost use mathlib.Core.Path.{_≡_};
 ghost use Rattle.rules.specs.Plane.{tAt};
 ghost use Rattle.rules.specs.Questions.{boxesApart, beyondCorners, stripApart, apart};
-ghost use Rattle.visits.specs.Small.{OnSheet, Small};
+ghost use Rattle.limits.specs.Small.{OnSheet, Small};
 ghost use Rattle.apart.specs.Placed.{BoxOnSheet, Placed};
 ghost use Rattle.apart.specs.Turned.{turned};
 
-pub fn boxes_apart(r: Row, q: Row) -> bool
-    requires { ⌜ BoxOnSheet r × BoxOnSheet q ⌝ }
-    ensures { λ b. ⌜ b ≡ boxesApart r q ⌝ }
+pub fn boxes_apart(row_a: Row, row_b: Row) -> bool
+    requires { ⌜ BoxOnSheet «row_a» × BoxOnSheet «row_b» ⌝ }
+    ensures { λ r. ⌜ r ≡ boxesApart «row_a» «row_b» ⌝ }
 {
-    if r.xmax < q.xmin {
+    if row_a.xmax < row_b.xmin {
         return true;
     }
-    if q.xmax < r.xmin {
+    if row_b.xmax < row_a.xmin {
         return true;
     }
-    if r.ymax < q.ymin {
+    if row_a.ymax < row_b.ymin {
         return true;
     }
-    q.ymax < r.ymin
+    row_b.ymax < row_a.ymin
 }
 
 // u turned to the left by a right angle: c along u is t along it.
@@ -34,43 +34,50 @@ fn turned(u: Point) -> Point
     Point { x: -u.y, y: u.x }
 }
 
-// Whether t along v is below lo at all four corners of the box of q, or above hi at all four. Its least and greatest
-// there are those of its two parts together, so nothing branches on the corners.
-fn beyond(v: Point, s: Point, q: Row, lo: i64, hi: i64) -> bool
-    requires { ⌜ OnSheet s × Small v × BoxOnSheet q ⌝ }
-    ensures { λ b. ⌜ b ≡ beyondCorners (tAt s v) lo hi q ⌝ }
+// Whether t along v is below lo at all four corners of the other node's box, or above hi at all four. Its least and
+// greatest there are those of its two parts together, so nothing branches on the corners.
+fn beyond(v: Point, s: Point, other: Row, lo: i64, hi: i64) -> bool
+    requires { ⌜ OnSheet s × Small v × BoxOnSheet other ⌝ }
+    ensures { λ r. ⌜ r ≡ beyondCorners (tAt s v) lo hi other ⌝ }
 {
-    let west = v.x * (q.xmin - s.x);
-    let east = v.x * (q.xmax - s.x);
-    let south = v.y * (q.ymin - s.y);
-    let north = v.y * (q.ymax - s.y);
+    let west = v.x * (other.xmin - s.x);
+    let east = v.x * (other.xmax - s.x);
+    let south = v.y * (other.ymin - s.y);
+    let north = v.y * (other.ymax - s.y);
     if greater(west, east) + greater(south, north) < lo {
         return true;
     }
     hi < lesser(west, east) + lesser(south, north)
 }
 
-// Whether c, or t, of the node of row r says that the box of q is beyond its strip.
-fn strip_apart(r: Row, s: Point, u: Point, q: Row) -> bool
-    requires { ⌜ OnSheet s × Small u × BoxOnSheet q ⌝ }
-    ensures { λ b. ⌜ b ≡ stripApart r s u q ⌝ }
+// Whether c, or t, of a node says that the other node's box is beyond its strip.
+fn strip_apart(row: Row, s: Point, u: Point, other: Row) -> bool
+    requires { ⌜ OnSheet s × Small u × BoxOnSheet other ⌝ }
+    ensures { λ r. ⌜ r ≡ stripApart row s u other ⌝ }
 {
     let v = turned(u);
-    if beyond(v, s, q, r.cmin, r.cmax) {
+    if beyond(v, s, other, row.cmin, row.cmax) {
         return true;
     }
-    beyond(u, s, q, r.tmin, r.tmax)
+    beyond(u, s, other, row.tmin, row.tmax)
 }
 
-pub fn apart(r: Row, s: Point, u: Point, q: Row, s2: Point, u2: Point) -> bool
-    requires { ⌜ Placed r s u × Placed q s2 u2 ⌝ }
-    ensures { λ b. ⌜ b ≡ apart r s u q s2 u2 ⌝ }
+pub fn apart(
+    row_a: Row,
+    start_a: Point,
+    heading_a: Point,
+    row_b: Row,
+    start_b: Point,
+    heading_b: Point,
+) -> bool
+    requires { ⌜ Placed «row_a» «start_a» «heading_a» × Placed «row_b» «start_b» «heading_b» ⌝ }
+    ensures { λ r. ⌜ r ≡ apart «row_a» «start_a» «heading_a» «row_b» «start_b» «heading_b» ⌝ }
 {
-    if boxes_apart(r, q) {
+    if boxes_apart(row_a, row_b) {
         return true;
     }
-    if strip_apart(r, s, u, q) {
+    if strip_apart(row_a, start_a, heading_a, row_b) {
         return true;
     }
-    strip_apart(q, s2, u2, r)
+    strip_apart(row_b, start_b, heading_b, row_a)
 }

@@ -1,5 +1,5 @@
--- The box of a node is that of its halves: the least over a run is the lesser of the least over two runs that share a point,
--- and the greatest likewise. Both are proved once, of a choice that is first in an order.
+-- The box of a node is that of its halves: the least over a run is the lesser of the least over two runs that share a
+-- point, and the greatest likewise. Both are proved once, of a choice that is first in an order.
 use mathlib.Core.Path.{_≡_}
 use mathlib.Core.Logic.{⊎-elim}
 use mathlib.Core.List.{List}
@@ -7,11 +7,11 @@ use Prim.Native.Nat.{ℕ, _+_, _-_, _≤_, _<_}
 use native.Mathlib.Omega.{arith}
 use lib.IntN.{ℤ}
 use lib.Signed.{_≤ℤ_}
-use Rattle.whole.specs.Order.{minZ, maxZ, min-l, min-r, min-greatest, max-l, max-r, max-least, ≤ℤ-trans, ≤ℤ-antisym}
+use Rattle.integers.specs.Order.{minZ, maxZ, min-l, min-r, min-greatest, max-l, max-r, max-least, ≤ℤ-trans, ≤ℤ-antisym}
 use Rattle.rules.specs.Sheet.{point}
 use Rattle.rules.specs.Tree.{least, greatest, measured}
-use Rattle.built.proofs.Rows.{≤-or->}
-use Rattle.built.proofs.Extents.{least-below, greatest-above, least-all, greatest-all}
+use Rattle.table_truth.proofs.Rows.{≤-or->}
+use Rattle.table_truth.proofs.Extents.{least-below, greatest-above, least-all, greatest-all}
 use Rattle.build.specs.Rows.{withBox, joined}
 
 module _ (R : ℤ → ℤ → Type 0)
@@ -41,10 +41,11 @@ least-union =
     union _≤ℤ_ (λ _ _ _ h k. ≤ℤ-trans h k) (λ _ _ h k. ≤ℤ-antisym h k) minZ min-l min-r (λ _ _ _ h k. min-greatest h k)
     least least-below least-all
 
-greatest-union : (f : ℕ → ℤ) (a s b : ℕ) → a ≤ s → s ≤ b → maxZ (greatest f a (s - a)) (greatest f s (b - s)) ≡ greatest f a (b - a)
+greatest-union : (f : ℕ → ℤ) (a s b : ℕ) → a ≤ s → s ≤ b
+    → maxZ (greatest f a (s - a)) (greatest f s (b - s)) ≡ greatest f a (b - a)
 greatest-union =
-    union (λ a b. b ≤ℤ a) (λ _ _ _ h k. ≤ℤ-trans k h) (λ _ _ h k. ≤ℤ-antisym k h) maxZ max-l max-r (λ _ _ _ h k. max-least h k)
-    greatest greatest-above greatest-all
+    union (λ a b. b ≤ℤ a) (λ _ _ _ h k. ≤ℤ-trans k h) (λ _ _ h k. ≤ℤ-antisym k h) maxZ max-l max-r
+    (λ _ _ _ h k. max-least h k) greatest greatest-above greatest-all
 
 -- so a node's row, with the box of its halves, is the node's row
 pub joined-same : (ps : List ℤ) (first s last : ℕ) → first < s → s < last → (z a b : ℤ)

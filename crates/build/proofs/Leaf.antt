@@ -5,7 +5,7 @@ use Prim.Native.Nat.{ℕ, _+_, _-_, _≤_, _<_}
 use native.Mathlib.Omega.{arith}
 use lib.IntN.{ℤ, pos}
 use lib.Signed.{_≤ℤ_, ≤ℤ-refl}
-use Rattle.whole.specs.Order.{minZ, maxZ, min-l, min-greatest, max-r, max-least, ≤ℤ-antisym, nn-add, nn-sq}
+use Rattle.integers.specs.Order.{minZ, maxZ, min-l, min-greatest, max-r, max-least, ≤ℤ-antisym, nn-add, nn-sq}
 use Rattle.rules.specs.declared.Point.{Point}
 use Rattle.rules.specs.declared.Row.{Row}
 use Rattle.rules.specs.Plane.{step, direction, size²}
@@ -59,7 +59,8 @@ module _ (ps : List ℤ) (first last : ℕ) (order : first < last) (leaf : last 
   b = point ps last
 
   pub leaf-measured : measured ps first last noSplit
-      ≡ leafRow first last (size² (step a b)) (minZ (a .x) (b .x)) (maxZ (a .x) (b .x)) (minZ (a .y) (b .y)) (maxZ (a .y) (b .y))
+      ≡ leafRow first last (size² (step a b)) (minZ (a .x) (b .x)) (maxZ (a .x) (b .x)) (minZ (a .y) (b .y))
+      (maxZ (a .y) (b .y))
   unfolding measured
   leaf-measured =
       let u = direction a b in

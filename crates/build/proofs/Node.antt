@@ -1,5 +1,5 @@
--- A node's run is handed on as a part that starts in the middle of the line: what is measured of the part gives the node's
--- strip and split. And the rows of a node begin with its own.
+-- A node's run is handed on as a part that starts in the middle of the line: what is measured of the part gives the
+-- node's strip and split. And the rows of a node begin with its own.
 use mathlib.Core.Path.{_≡_, sym, ap, _∙_}
 use mathlib.Core.Bool.{Bool, cond}
 use mathlib.Core.Logic.{⊎-elim}
@@ -10,14 +10,14 @@ use borrow.Author.Tests.{le-leb, lt-leb}
 use lib.IntN.{ℤ, pos}
 use lib.ListN.{length, take, drop, length-drop}
 use lib.Seq.{length-take-le}
-use Rattle.whole.specs.Range.{Abs≤}
+use Rattle.integers.specs.Range.{Abs≤}
 use Rattle.rules.specs.declared.Row.{Row}
 use Rattle.rules.specs.Sheet.{segmentsOf, onSheet, most}
-use Rattle.rules.specs.Tree.{splitOf, rowAt, measured, noSplit, numbers, rowsOf}
-use Rattle.built.specs.RowRange.{RowRange, AllFit}
-use Rattle.built.proofs.Rows.{leaf-rows, inner-rows, leaf-or-inner, leaf-front, inner-front}
-use Rattle.built.proofs.Part.{part-point, standing, split-part, measured-part}
-use Rattle.built.proofs.Narrow.{measured-range, numbers-fit}
+use Rattle.rules.specs.Tree.{splitOf, rowAt, measured, noSplit, isLeaf, numbers, rowsOf}
+use Rattle.table_truth.specs.RowRange.{RowRange, AllFit}
+use Rattle.table_truth.proofs.Rows.{leaf-rows, inner-rows, leaf-or-inner, leaf-front, inner-front}
+use Rattle.table_truth.proofs.Part.{part-point, standing, split-part, measured-part}
+use Rattle.table_truth.proofs.Narrow.{measured-range, numbers-fit}
 use Rattle.run.specs.declared.Measured.{Measured}
 use Rattle.run.specs.Run.{AllOnSheet, measureOf}
 use Rattle.build.specs.Rows.{nodeRow, unboxed}
@@ -45,7 +45,8 @@ runOf ps first last = take (2 * last + 2 - 2 * first) (drop (2 * first) ps)
 module _ (ps : List ℤ) (first last : ℕ) (order : first < last) (room : 2 * last + 2 ≤ length ps) where
   -- it is as long as its points ask, and has their segments
   run-length : length (runOf ps first last) ≡ 2 * last + 2 - 2 * first
-  run-length = length-take-le (2 * last + 2 - 2 * first) (drop (2 * first) ps) (omega (arith, length-drop (2 * first) ps))
+  run-length =
+      length-take-le (2 * last + 2 - 2 * first) (drop (2 * first) ps) (omega (arith, length-drop (2 * first) ps))
 
   pub run-segments : segmentsOf (runOf ps first last) ≡ last - first
   run-segments = let n = run-length in omega arith
@@ -69,7 +70,7 @@ module _ (ps : List ℤ) (first last : ℕ) (order : first < last) (room : 2 * l
       ∙ sym (split-part ps first last (2 * last + 2 - 2 * first) (omega arith) (omega arith))
 
   -- and every number of it fits an i32, with its box or without
-  module _ (on : AllOnSheet ps) (few : last < 4097) (s : ℤ) (small : Abs≤ most s) where
+  module _ (on : AllOnSheet ps) (few : last < most) (s : ℤ) (small : Abs≤ most s) where
     row-range : RowRange (measured ps first last s)
     row-range = measured-range ps first last (omega arith) (λ i a b. on i (omega arith)) s (omega arith) small
 
@@ -93,25 +94,31 @@ module _ (ps : List ℤ) (first last : ℕ) (order : first < last) (room : 2 * l
 
 module _ (ps : List ℤ) (first last : ℕ) where
   -- a leaf, and a node with an inner point
+  by-kind : {b : Bool} → isLeaf first last ≡ b
+      → measured ps first last (cond b noSplit (pos (splitOf ps first last))) ≡ nodeRow ps first last
+  by-kind e = sym (ap (λ (b : Bool). measured ps first last (cond b noSplit (pos (splitOf ps first last)))) e)
+
   pub leaf-row : last ≤ first + 1 → measured ps first last noSplit ≡ nodeRow ps first last
-  leaf-row h = sym (ap (λ (b : Bool). measured ps first last (cond b noSplit (pos (splitOf ps first last)))) (le-leb last (first + 1) h))
+  leaf-row h = by-kind (le-leb last (first + 1) h)
 
   pub inner-row : first + 1 < last → measured ps first last (pos (splitOf ps first last)) ≡ nodeRow ps first last
-  inner-row h = sym (ap (λ (b : Bool). measured ps first last (cond b noSplit (pos (splitOf ps first last)))) (lt-leb last (first + 1) h))
+  inner-row h = by-kind (lt-leb last (first + 1) h)
 
   -- one level of the rows
   pub leaf-level : (f : ℕ) → last ≤ first + 1 → 0 < f → numbers (nodeRow ps first last) ≡ rowsOf f ps first last
   leaf-level f h k = ap numbers (sym (leaf-row h)) ∙ sym (leaf-rows f ps first last h k)
 
   pub inner-level : (f s : ℕ) → first + 1 < last → 0 < f → s ≡ splitOf ps first last
-      → numbers (nodeRow ps first last) ++ (rowsOf (pred f) ps first s ++ rowsOf (pred f) ps s last) ≡ rowsOf f ps first last
+      → numbers (nodeRow ps first last) ++ (rowsOf (pred f) ps first s ++ rowsOf (pred f) ps s last)
+      ≡ rowsOf f ps first last
   inner-level f s h k e =
       let row = sym (inner-row h) in
-      (λ d. numbers (row d) ++ (rowsOf (pred f) ps first (e d) ++ rowsOf (pred f) ps (e d) last)) ∙ sym (inner-rows f ps first last h k)
+      (λ d. numbers (row d) ++ (rowsOf (pred f) ps first (e d) ++ rowsOf (pred f) ps (e d) last))
+      ∙ sym (inner-rows f ps first last h k)
 
   -- the first of the rows
   pub first-row : (f : ℕ) (rest : List ℤ) → 0 < f → rowAt (rowsOf f ps first last ++ rest) 0 ≡ nodeRow ps first last
   first-row zero rest k = absurd (omega arith)
   first-row (suc f) rest k =
-      ⊎-elim (λ h. leaf-front (suc f) ps first last rest h k ∙ leaf-row h) (λ h. inner-front f ps first last rest h ∙ inner-row h)
-      (leaf-or-inner first last)
+      ⊎-elim (λ h. leaf-front (suc f) ps first last rest h k ∙ leaf-row h)
+      (λ h. inner-front f ps first last rest h ∙ inner-row h) (leaf-or-inner first last)

@@ -1,5 +1,5 @@
--- A table written in four steps: a row at the front without its box, rows in a part of just their length, rows in what is
--- left, and the box by the first of each.
+-- A table written in four steps: a row at the front without its box, rows in a part of just their length, rows in what
+-- is left, and the box by the first of each.
 use mathlib.Core.Path.{_≡_, sym, ap, _∙_}
 use mathlib.Core.List.{List, [], _++_, append-assoc, append-nil}
 use Prim.Native.Nat.{ℕ, _+_, _*_, _-_, _≤_, _<_}
@@ -9,14 +9,15 @@ use lib.ListN.{length, take, drop, length-append, length-drop, drop-of-length-le
 use lib.Seq.{take-at, drop-at, drop-drop, length-take-le, drop-length, take-length}
 use Rattle.rules.specs.declared.Row.{Row}
 use Rattle.rules.specs.Tree.{width, numbers, rowAt, rowCount}
-use Rattle.built.proofs.Rows.{row-front}
+use Rattle.table_truth.proofs.Rows.{row-front}
 use Rattle.build.specs.Rows.{unboxed, joined, rowFrom, boxedBy}
 
 -- what a list is after its part from a on, of n numbers, was lent and came back as y
 abbrev pub returned : ℕ → ℕ → List ℤ → List ℤ → List ℤ
 returned a n t y = take a t ++ (y ++ drop n (drop a t))
 
--- t is the table lent; t1 has the row, y1 the left rows in the part up to k, t2 both, y2 the right rows in the part from k on
+-- t is the table lent; t1 has the row, y1 the left rows in the part up to k, t2 both, y2 the right rows in the part
+-- from k on
 pub three-parts : (t row L R t1 y1 t2 y2 : List ℤ) (k m : ℕ)
     → length row ≡ width → width ≤ k → length L ≡ k - width → k ≤ length t
     → t1 ≡ row ++ drop width t
@@ -29,10 +30,12 @@ three-parts t row L R t1 y1 t2 y2 k m lr lk ll lt e1 e2 e3 e4 =
     let E = drop k t in
     let front : take width t1 ≡ row = ap (take width) e1 ∙ take-at row D width lr in
     let rest : drop width t1 ≡ D = ap (drop width) e1 ∙ drop-at row D width lr in
-    let full : length (take (k - width) D) ≡ k - width = length-take-le (k - width) D (omega (arith, length-drop width t)) in
-    let none : drop (length L) (take (k - width) D) ≡ [] = drop-of-length-le (take (k - width) D) {i = length L} (omega arith) in
+    let P = take (k - width) D in
+    let full : length P ≡ k - width = length-take-le (k - width) D (omega (arith, length-drop width t)) in
+    let none : drop (length L) P ≡ [] = drop-of-length-le P {i = length L} (omega arith) in
     let left : y1 ≡ L =
-    e2 ∙ ap (λ (d : List ℤ). L ++ drop (length L) (take (k - width) d)) rest ∙ ap (λ (d : List ℤ). L ++ d) none ∙ append-nil L in
+    e2 ∙ ap (λ (d : List ℤ). L ++ drop (length L) (take (k - width) d)) rest ∙ ap (λ (d : List ℤ). L ++ d) none
+    ∙ append-nil L in
     let q : width + (k - width) ≡ k = omega arith in
     let past : drop (k - width) D ≡ E = drop-drop (k - width) width t ∙ ap (λ (n : ℕ). drop n t) q in
     let both : t2 ≡ (row ++ L) ++ E = e3 ∙ cc (front, rest, left, past) ∙ sym (append-assoc row L E) in
@@ -40,9 +43,9 @@ three-parts t row L R t1 y1 t2 y2 k m lr lk ll lt e1 e2 e3 e4 =
     let upto : take k t2 ≡ row ++ L = ap (take k) both ∙ take-at (row ++ L) E k lb in
     let from : drop k t2 ≡ E = ap (drop k) both ∙ drop-at (row ++ L) E k lb in
     let n : length t2 - k ≡ length E = omega (arith, ap length both, length-append (row ++ L) E) in
-    let all : take (length t2 - k) (drop k t2) ≡ E = ap (take (length t2 - k)) from ∙ ap (λ (n : ℕ). take n E) n ∙ take-length E in
-    let end : drop (length t2 - k) (drop k t2) ≡ [] = ap (drop (length t2 - k)) from ∙ ap (λ (n : ℕ). drop n E) n ∙ drop-length E in
-    let right : y2 ≡ R ++ drop (k + m) t = e4 ∙ ap (λ (d : List ℤ). R ++ drop m d) all ∙ ap (λ (d : List ℤ). R ++ d) (drop-drop m k t) in
+    let all : take (length t2 - k) (drop k t2) ≡ E = (λ d. take (n d) (from d)) ∙ take-length E in
+    let end : drop (length t2 - k) (drop k t2) ≡ [] = (λ d. drop (n d) (from d)) ∙ drop-length E in
+    let right : y2 ≡ R ++ drop (k + m) t = e4 ∙ (λ d. R ++ drop m (all d)) ∙ (λ d. R ++ drop-drop m k t d) in
     let z : returned k (length t2 - k) t2 y2 ≡ (row ++ L) ++ ((R ++ drop (k + m) t) ++ []) = cc (upto, right, end) in
     z ∙ simp (append-nil, append-assoc)
 
@@ -58,7 +61,8 @@ boxed-parts t L R rest k r a b lk ll e p q =
     let front : rowFrom 0 t ≡ unboxed r = ap (rowFrom 0) parts ∙ row-front (unboxed r) (L ++ (R ++ rest)) in
     let past : drop width t ≡ L ++ (R ++ rest) = ap (drop width) parts in
     let next : rowFrom width t ≡ a = ap (λ (l : List ℤ). rowAt l 0) past ∙ p in
-    let far : drop k t ≡ R ++ rest = ap (drop k) (parts ∙ sym (append-assoc row L (R ++ rest))) ∙ drop-at (row ++ L) (R ++ rest) k (omega arith) in
+    let far : drop k t ≡ R ++ rest =
+    ap (drop k) (parts ∙ sym (append-assoc row L (R ++ rest))) ∙ drop-at (row ++ L) (R ++ rest) k (omega arith) in
     let right : rowFrom k t ≡ b = ap (λ (l : List ℤ). rowAt l 0) far ∙ q in
     (λ d. numbers (joined (front d) (next d) (right d)) ++ past d) ∙ simp append-assoc
 

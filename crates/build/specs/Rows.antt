@@ -1,16 +1,33 @@
 -- The row of a node, and its box, which is written last.
-use mathlib.Core.Bool.{cond}
+use mathlib.Core.Bool.{Bool, cond}
 use mathlib.Core.List.{List, _++_}
 use Prim.Native.Nat.{ℕ}
 use lib.IntN.{ℤ, pos}
 use lib.ListN.{getD, drop, set}
-use Rattle.whole.specs.Order.{minZ, maxZ}
+use Rattle.integers.specs.Order.{minZ, maxZ}
 use Rattle.rules.specs.declared.Row.{Row}
 use Rattle.rules.specs.Tree.{splitOf, width, numbers, rowAt, measured, noSplit, isLeaf}
 
 -- ---- the row of the node that covers the points first to last
 abbrev pub nodeRow : List ℤ → ℕ → ℕ → Row
 nodeRow ps first last = measured ps first last (cond (isLeaf first last) noSplit (pos (splitOf ps first last)))
+
+-- the numbers of a row, one by one
+abbrev pub inOrder : ℤ → ℤ → ℤ → ℤ → ℤ → ℤ → ℤ → ℤ → ℤ → ℤ → ℤ → List ℤ
+inOrder first last split cmin cmax tmin tmax xmin xmax ymin ymax =
+    numbers (record {
+      first = first;
+      last = last;
+      split = split;
+      cmin = cmin;
+      cmax = cmax;
+      tmin = tmin;
+      tmax = tmax;
+      xmin = xmin;
+      xmax = xmax;
+      ymin = ymin;
+      ymax = ymax;
+    })
 
 -- ---- its box, which is written once its halves have theirs
 -- row r with another box
@@ -34,7 +51,9 @@ unboxed r = withBox r (pos 0) (pos 0) (pos 0) (pos 0)
 
 -- with the box of two halves
 abbrev pub joined : Row → Row → Row → Row
-joined r a b = withBox r (minZ (a .xmin) (b .xmin)) (maxZ (a .xmax) (b .xmax)) (minZ (a .ymin) (b .ymin)) (maxZ (a .ymax) (b .ymax))
+joined r a b =
+    withBox r (minZ (a .xmin) (b .xmin)) (maxZ (a .xmax) (b .xmax)) (minZ (a .ymin) (b .ymin))
+    (maxZ (a .ymax) (b .ymax))
 
 -- the row that stands n numbers on
 abbrev pub rowFrom : ℕ → List ℤ → Row
@@ -43,6 +62,10 @@ rowFrom n t = rowAt (drop n t) 0
 -- the table whose front row has the box of its halves, whose rows stand next and at right
 abbrev pub boxedBy : ℕ → List ℤ → List ℤ
 boxedBy right t = numbers (joined (rowFrom 0 t) (rowFrom width t) (rowFrom right t)) ++ drop width t
+
+-- the lesser of two numbers, or the greater
+abbrev pub extreme : Bool → ℤ → ℤ → ℤ
+extreme least a b = cond least (minZ a b) (maxZ a b)
 
 -- number k of the front row alone, set to the choice of number k of those two rows
 abbrev pub setBy : (ℤ → ℤ → ℤ) → ℕ → ℕ → List ℤ → List ℤ

@@ -1,5 +1,5 @@
-// The builder: the rows of a line's strip tree, written into a lent table. A refused build writes nothing, and numbers past
-// the rows stay unchanged.
+// The builder: the rows of a line's strip tree, written into a lent table. A refused build writes nothing, and numbers
+// past the rows stay unchanged.
 mod rows;
 
 use build_checks::check;
@@ -17,5 +17,5 @@ pub fn build(points: &[i32], table: &mut [i32]) -> Built
         return Built::Refused(refusal);
     }
     rows::build_node(points, 0, points.len() / 2 - 1, table);
-    Built::Whole
+    Built::Written
 }

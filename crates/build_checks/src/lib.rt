@@ -1,5 +1,8 @@
 // The refusals of building, 1 to 6 in this order.
-use line::on_sheet;
+use limits::FEWEST;
+use limits::MOST;
+use limits::WIDTH;
+use line::on_sheet_at;
 use line::point_at;
 use line::same_point;
 use rules::Built;
@@ -13,9 +16,6 @@ ghost use lib.ListN.{length};
 ghost use Rattle.rules.specs.Build.{lowest, offSheet, equalNext, buildRefusal};
 ghost use Rattle.rules.specs.Reply.{builtRefusal};
 
-// The numbers of a row.
-pub const WIDTH: usize = 11;
-
 // The lowest point off the sheet, or count where there is none.
 fn lowest_off(points: &[i32], count: usize) -> usize
     requires { ⌜ 2 * count ≤ length (now points) ⌝ }
@@ -23,7 +23,7 @@ fn lowest_off(points: &[i32], count: usize) -> usize
 {
     let mut i: usize = 0;
     while i < count {
-        if !on_sheet(point_at(points, i)) {
+        if !on_sheet_at(points, i) {
             return i;
         }
         i += 1;
@@ -65,10 +65,10 @@ pub fn check(points: &[i32], room: usize) -> Built
         return refuse(1, 0);
     }
     let count = points.len() / 2;
-    if count < 2 {
+    if count < FEWEST {
         return refuse(2, 0);
     }
-    if 4097 < count {
+    if MOST < count {
         return refuse(3, 0);
     }
     let off = lowest_off(points, count);
@@ -83,5 +83,5 @@ pub fn check(points: &[i32], room: usize) -> Built
     if room < WIDTH * (2 * segments - 1) {
         return refuse(6, 0);
     }
-    Built::Whole
+    Built::Written
 }

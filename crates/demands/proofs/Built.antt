@@ -13,8 +13,8 @@ use Rattle.rules.specs.Rows.{lengthChecks, distanceCheck, askedCheck, ringCheck
 use Rattle.rules.specs.Questions.{nearReply, meetReply, inReply, agreeReply}
 use Rattle.rules.specs.Build.{buildRefusal, builtTable}
 use Rattle.visits.proofs.Checks.{orElse, first-append}
-use Rattle.built.proofs.Sound.{built-sound}
-use Rattle.built.proofs.Table.{built-passes}
+use Rattle.table_truth.proofs.Sound.{built-sound}
+use Rattle.table_truth.proofs.Table.{built-passes}
 use Rattle.demands.specs.Answers.{Answers, nearPlain, meetPlain, inPlain, agreePlain}
 use Rattle.demands.proofs.Sound.{near-answers, in-answers, meet-answers, agree-answers}
 

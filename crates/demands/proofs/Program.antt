@@ -12,16 +12,17 @@ use Rattle.rules.specs.declared.Line.{Line}
 use Rattle.rules.specs.declared.Line.the-variants.{LineA, LineB}
 use Rattle.rules.specs.declared.Point.{Point}
 use Rattle.allowance.specs.Enough.{pointEnough, pairEnough, agreeEnough}
-use Rattle.rules.specs.Reply.{Reply, firstRefusal}
+use Rattle.rules.specs.declared.Reply.{Reply}
+use Rattle.rules.specs.Reply.{firstRefusal}
 use Rattle.rules.specs.Rows.{distanceCheck, askedCheck, ringCheck}
 use Rattle.rules.specs.Questions.{nearReply, meetReply, inReply, agreeReply}
 use Rattle.rules.specs.Build.{buildRefusal, tableOf, builtTable}
 use Rattle.words.specs.declared.Record.{Record}
 use Rattle.words.specs.declared.Record.the-variants.{Near, In, Meet, Agree}
-use Rattle.desk.specs.Desk.{Store, Desk, countText, refusedAt, onBuild, withTable, ofA, ofBoth, turnOf, turn}
-use Rattle.built.specs.Accepted.{rowNumbers}
-use Rattle.built.proofs.Refusals.{accepted}
-use Rattle.built.proofs.Table.{table-length, built-rows, built-length}
+use Rattle.desk.specs.Desk.{Store, Desk, countText, refusedAt, onBuild, withTable, ofA, ofBoth, takeRecord, takeText}
+use Rattle.table_truth.specs.Accepted.{rowNumbers}
+use Rattle.table_truth.proofs.Refusals.{accepted}
+use Rattle.table_truth.proofs.Table.{table-length, built-rows, built-length}
 use Rattle.demands.specs.Answers.{Answers, nearPlain, meetPlain, inPlain, agreePlain}
 use Rattle.demands.specs.Program.{Builds, ProgramAnswers}
 use Rattle.demands.proofs.Built.{near-built, in-built, meet-built, agree-built}
@@ -30,7 +31,7 @@ use Rattle.demands.proofs.Built.{near-built, in-built, meet-built, agre
 own-table : (ps : List ℤ) → buildRefusal ps (tableOf ps) ≡ none → builtTable ps (tableOf ps) ≡ tableOf ps
 own-table ps e =
     let t = tableOf ps in
-    let whole = table-length ps (accepted ps t e .enough) in
+    let whole = table-length ps (accepted ps t e .lengths .some-points) in
     sym (take-all (rowNumbers ps) (builtTable ps t) (omega (arith, built-length ps t))) ∙ built-rows ps t e
 
 -- the table that a store builds
@@ -55,34 +56,31 @@ module _ (d : Desk) where
 
   -- a reply that answers, and is what the program says, is the program's answer
   program-answers : (asks : ℕ → Record) {reply plain : ℕ → Reply} {enough : ℕ} → Answers reply plain enough
-      → ((allowance : ℕ) → turnOf (countText d) (asks allowance) .said ≡ some (reply allowance))
+      → ((allowance : ℕ) → takeRecord (countText d) (asks allowance) .said ≡ some (reply allowance))
       → ProgramAnswers d asks plain enough
-  unfolding turn
+  unfolding takeText
   program-answers asks w said = record {
     needs = w .needs;
     bounded = w .bounded;
-    given = λ text a e l. turned e ∙ said a ∙ ap some (w .given a l);
-    undecided = λ text a e l. turned e ∙ said a ∙ ap some (w .undecided a l);
+    given = λ text a e l. rw e (said a ∙ ap some (w .given a l));
+    undecided = λ text a e l. rw e (said a ∙ ap some (w .undecided a l));
   }
-    where
-      turned : {r s : Record} → r ≡ s → turnOf (countText d) r .said ≡ turnOf (countText d) s .said
-      turned e = ap (λ r. turnOf (countText d) r .said) e
 
   module _ (a-builds : Builds (d .a)) where
     of-A : (go : List ℤ → Reply) → ofA (countText d) go ≡ go (tableIn (d .a))
     of-A go = asked-with LineA (d .a) (countText d .textLines) go a-builds
 
     -- NEAR, of the program
-    pub near-turn : (z : Point) (D : ℤ) → firstRefusal (distanceCheck D ∷ askedCheck z ∷ []) ≡ none
+    pub near-program : (z : Point) (D : ℤ) → firstRefusal (distanceCheck D ∷ askedCheck z ∷ []) ≡ none
         → ProgramAnswers d (Near (z .x) (z .y) D) (nearPlain psA z D) (pointEnough psA)
-    near-turn z D e =
+    near-program z D e =
         program-answers (Near (z .x) (z .y) D) (near-built psA (tableOf psA) (a-builds .unrefused) z D e)
         (λ a. ap some (of-A (λ t. nearReply psA t z D a)))
 
     -- IN, of the program
-    pub in-turn : (z : Point) → firstRefusal (askedCheck z ∷ ringCheck LineA psA ∷ []) ≡ none
+    pub in-program : (z : Point) → firstRefusal (askedCheck z ∷ ringCheck LineA psA ∷ []) ≡ none
         → ProgramAnswers d (In (z .x) (z .y)) (inPlain psA z) (pointEnough psA)
-    in-turn z e =
+    in-program z e =
         program-answers (In (z .x) (z .y)) (in-built psA (tableOf psA) (a-builds .unrefused) z e)
         (λ a. ap some (of-A (λ t. inReply psA t z a)))
 
@@ -93,16 +91,16 @@ module _ (d : Desk) where
           ∙ asked-with LineB (d .b) (countText d .textLines) (go (tableIn (d .a))) b-builds
 
       -- MEET, of the program
-      pub meet-turn : ProgramAnswers d Meet (meetPlain psA psB) (pairEnough psA psB)
-      meet-turn =
+      pub meet-program : ProgramAnswers d Meet (meetPlain psA psB) (pairEnough psA psB)
+      meet-program =
           program-answers Meet
           (meet-built psA (tableOf psA) (a-builds .unrefused) psB (tableOf psB) (b-builds .unrefused))
           (λ a. ap some (of-both (λ t t′. meetReply psA t psB t′ a)))
 
       -- AGREE, of the program
-      pub agree-turn : (D : ℤ) → firstRefusal (distanceCheck D ∷ []) ≡ none
+      pub agree-program : (D : ℤ) → firstRefusal (distanceCheck D ∷ []) ≡ none
           → ProgramAnswers d (Agree D) (agreePlain psA psB D) (agreeEnough psA psB)
-      agree-turn D e =
+      agree-program D e =
           program-answers (Agree D)
           (agree-built psA (tableOf psA) (a-builds .unrefused) psB (tableOf psB) (b-builds .unrefused) D e)
           (λ a. ap some (of-both (λ t t′. agreeReply psA t psB t′ D a)))

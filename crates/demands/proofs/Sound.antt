@@ -14,7 +14,10 @@ use Rattle.rules.specs.declared.Point.{Point}
 use Rattle.rules.specs.declared.Refusal.{Refusal}
 use Rattle.allowance.specs.Enough.{pointEnough, pairEnough, agreeEnough}
 use Rattle.rules.specs.Plain.{plainNear, plainMeet, plainOn, plainInside}
-use Rattle.rules.specs.Reply.{Word, YES, NO, INSIDE, OUTSIDE, ON, UNDECIDED, REFUSED, Reply, says}
+use Rattle.rules.specs.declared.Word.{Word}
+use Rattle.rules.specs.declared.Word.the-variants.{YES, NO, INSIDE, OUTSIDE, ON, UNDECIDED, REFUSED}
+use Rattle.rules.specs.declared.Reply.{Reply}
+use Rattle.rules.specs.Reply.{says}
 use Rattle.rules.specs.Reply.{firstRefusal, orRefused}
 use Rattle.rules.specs.Walk.{Walked, ended, over, spent, refused, fresh}
 use Rattle.rules.specs.Questions.{Nothing, yesOrNo, nearWalk, nearChecks, nearReply, meetWalk, meetChecks, meetReply}
@@ -76,10 +79,6 @@ side-bare a (over false y) = inr refl
 side-bare a spent = inr refl
 side-bare a (refused r) = inl refl
 
--- so is a reply whose checks refuse nothing
-checked-bare : {o : Option Refusal} {r : Reply} → o ≡ none → Bare r → Bare (orRefused o r)
-checked-bare e b = rw e b
-
 -- plain geometry refuses nothing
 yes-no-given : (b : Bool) → cond b YES NO ≢ REFUSED
 yes-no-given true e = never (cc)
@@ -90,12 +89,17 @@ side-given true inside e = never (cc)
 side-given false true e = never (cc)
 side-given false false e = never (cc)
 
--- a reply that says only w says no more than w
-only-honest : {w : Word} {r : Reply} → w ≢ REFUSED → SaysOnly w r → Bare r → Honest (says w) r
-only-honest {w} {r} given only bare =
-    ⊎-elim inl
-    (λ e. ⊎-elim (λ f. absurd (given (sym e ∙ f))) (λ b. inr (b ∙ ap (λ (u : Word). says u (r .visits)) e)) bare)
-    only
+-- what is decided, and says only w at every allowance, answers w where its reply is bare once its checks refuse nothing
+only-answers : {w : Word} {o : Option Refusal} {reply : ℕ → Reply} {enough : ℕ} → w ≢ REFUSED → o ≡ none
+    → Decides (λ a. orRefused o (reply a)) enough → ((a : ℕ) → SaysOnly w (orRefused o (reply a)))
+    → ((a : ℕ) → Bare (reply a)) → Answers (λ a. orRefused o (reply a)) (says w) enough
+only-answers {w} {o} {reply} given e d only bare = answers d (λ a. ⊎-elim inl (λ f. inr (honest a f)) (only a))
+  where
+    honest : (a : ℕ) → orRefused o (reply a) .word ≡ w → orRefused o (reply a) ≡ says w (orRefused o (reply a) .visits)
+    honest a f =
+        let b : Bare (orRefused o (reply a)) = rw e (bare a) in
+        ⊎-elim (λ r. absurd (given (sym f ∙ r)))
+        (λ q. q ∙ ap (λ (u : Word). says u (orRefused o (reply a) .visits)) f) b
 
 -- NEAR, of any sound table
 pub near-answers : (ps t : List ℤ) (z : Point) (D : ℤ) → T (sound ps t)
@@ -103,9 +107,8 @@ pub near-answers : (ps t : List ℤ) (z : Point) (D : ℤ) → T (sound ps t)
     → Answers (nearReply ps t z D) (nearPlain ps z D) (pointEnough ps)
 unfolding nearReply
 near-answers ps t z D held e =
-    answers (near-decides ps t z D)
-    (λ a. only-honest (yes-no-given (plainNear ps z D)) (near-true ps t z D a held e)
-    (checked-bare e (yes-or-no-bare a (nearWalk LineA ps t z D (fresh a)))))
+    only-answers (yes-no-given (plainNear ps z D)) e (near-decides ps t z D) (λ a. near-true ps t z D a held e)
+    (λ a. yes-or-no-bare a (nearWalk LineA ps t z D (fresh a)))
 
 -- IN, of any sound table
 pub in-answers : (ps t : List ℤ) (z : Point) → T (sound ps t)
@@ -113,9 +116,8 @@ pub in-answers : (ps t : List ℤ) (z : Point) → T (sound ps t)
     → Answers (inReply ps t z) (inPlain ps z) (pointEnough ps)
 unfolding inReply
 in-answers ps t z held e =
-    answers (in-decides ps t z)
-    (λ a. only-honest (side-given (plainOn ps z) (plainInside ps z)) (in-true ps t z a held e)
-    (checked-bare e (side-bare a (inWalk ps t z (fresh a)))))
+    only-answers (side-given (plainOn ps z) (plainInside ps z)) e (in-decides ps t z) (λ a. in-true ps t z a held e)
+    (λ a. side-bare a (inWalk ps t z (fresh a)))
 
 -- MEET, of any sound tables
 pub meet-answers : (ps t qs t′ : List ℤ) → T (sound ps t) → T (sound qs t′)
@@ -123,9 +125,8 @@ pub meet-answers : (ps t qs t′ : List ℤ) → T (sound ps t) → T (sound qs 
     → Answers (meetReply ps t qs t′) (meetPlain ps qs) (pairEnough ps qs)
 unfolding meetReply
 meet-answers ps t qs t′ held held′ e =
-    answers (meet-decides ps t qs t′)
-    (λ a. only-honest (yes-no-given (plainMeet ps qs)) (meet-true ps t qs t′ a held held′ e)
-    (checked-bare e (yes-or-no-bare a (meetWalk ps t qs t′ (fresh a)))))
+    only-answers (yes-no-given (plainMeet ps qs)) e (meet-decides ps t qs t′)
+    (λ a. meet-true ps t qs t′ a held held′ e) (λ a. yes-or-no-bare a (meetWalk ps t qs t′ (fresh a)))
 
 -- ---------------- AGREE
 

@@ -9,7 +9,9 @@ use Rattle.rules.specs.declared.Line.the-variants.{LineA, LineB}
 use Rattle.rules.specs.declared.Point.{Point}
 use Rattle.rules.specs.Sheet.{point, pointsOf}
 use Rattle.rules.specs.Plain.{plainNear, plainMeet}
-use Rattle.rules.specs.Reply.{Reply, YES, NO, UNDECIDED, says, disagrees}
+use Rattle.rules.specs.declared.Word.the-variants.{YES, NO, UNDECIDED}
+use Rattle.rules.specs.declared.Reply.{Reply}
+use Rattle.rules.specs.Reply.{says, disagrees}
 use Rattle.rules.specs.Build.{lowest}
 use Rattle.ring_truth.specs.Truth.{plainSide}
 

@@ -4,11 +4,13 @@ use mathlib.Core.Bool.{false}
 use mathlib.Core.List.{List}
 use mathlib.Core.Option.{none, some}
 use Prim.Native.Nat.{ℕ, _≤_, _<_}
-use Rattle.rules.specs.Reply.{Reply, UNDECIDED, says}
+use Rattle.rules.specs.declared.Word.the-variants.{UNDECIDED}
+use Rattle.rules.specs.declared.Reply.{Reply}
+use Rattle.rules.specs.Reply.{says}
 use Rattle.rules.specs.Build.{buildRefusal, tableOf}
 use Rattle.words.specs.declared.Record.{Record}
 use Rattle.words.specs.Records.{recordOf}
-use Rattle.desk.specs.Desk.{Store, Desk, turn}
+use Rattle.desk.specs.Desk.{Store, Desk, takeText}
 
 -- no point past the 257th came, and the points build
 pub record Builds (s : Store) : Type 0 where
@@ -20,6 +22,6 @@ pub record ProgramAnswers (d : Desk) (asks : ℕ → Record) (plain : ℕ → Re
   pub needs : ℕ
   pub bounded : needs ≤ enough
   pub given : (text : List ℕ) (allowance : ℕ) → recordOf text ≡ asks allowance → needs ≤ allowance
-      → turn d text .said ≡ some (plain needs)
+      → takeText d text .said ≡ some (plain needs)
   pub undecided : (text : List ℕ) (allowance : ℕ) → recordOf text ≡ asks allowance → allowance < needs
-      → turn d text .said ≡ some (says UNDECIDED allowance)
+      → takeText d text .said ≡ some (says UNDECIDED allowance)

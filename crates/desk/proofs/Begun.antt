@@ -16,10 +16,12 @@ use Rattle.words.specs.declared.Record.{Record}
 use Rattle.words.specs.declared.Record.the-variants.{Start, Pt, Near, In, Meet, Agree, NotUnderstood}
 use Rattle.words.specs.Fields.{lineFeed}
 use Rattle.words.specs.Records.{longest, recordOf}
-use Rattle.desk.specs.Desk.{Desk, Turn, Store, room, empty, storeOf, putStore, countText, refusedAt, quiet, saying, addPoint, takePoint, turnOf, turn}
+use Rattle.desk.specs.Desk.{Desk, Taken, Store, room, empty, storeOf, putStore, countText}
+use Rattle.desk.specs.Desk.{refusedAt, quiet, saying, addPoint, takePoint, takeRecord, takeText}
 use Rattle.desk.specs.Chunks.{Carry, begun, keep, carryByte, carryChunk}
+use Rattle.desk.proofs.Chunks.{carried}
 
--- ---------------- a turn counts its text line
+-- ---------------- what is taken counts its text line
 put-counts : (d : Desk) (l : Line) (s : Store) → putStore d l s .textLines ≡ d .textLines
 put-counts d NoLine s = refl
 put-counts d LineA s = refl
@@ -34,7 +36,7 @@ add-counts d l x y = go (ltb (pointsOf (storeOf d l .points)) room)
     past : Store
     past = record { points = storeOf d l .points; over = true }
 
-    refused : Turn
+    refused : Taken
     refused = saying (putStore d l past) (refusedAt 13 l (d .textLines))
 
     go : (k : Bool) → cond k (quiet (putStore d l behind)) refused .desk .textLines ≡ d .textLines
@@ -46,7 +48,7 @@ take-counts d NoLine x y = refl
 take-counts d LineA x y = add-counts d LineA x y
 take-counts d LineB x y = add-counts d LineB x y
 
-record-counts : (d : Desk) (q : Record) → turnOf d q .desk .textLines ≡ d .textLines
+record-counts : (d : Desk) (q : Record) → takeRecord d q .desk .textLines ≡ d .textLines
 record-counts d (Start l) = put-counts d l empty
 record-counts d (Pt x y) = take-counts d (d .target) x y
 record-counts d (Near x y D allowance) = refl
@@ -55,10 +57,10 @@ record-counts d (Meet allowance) = refl
 record-counts d (Agree D allowance) = refl
 record-counts d NotUnderstood = refl
 
--- The turn of a text line counts it, and no other.
-pub turn-counts : (d : Desk) (text : List ℕ) → turn d text .desk .textLines ≡ d .textLines + 1
-unfolding turn
-turn-counts d text = record-counts (countText d) (recordOf text)
+-- A text line that is taken is counted, and no other.
+pub taken-counts : (d : Desk) (text : List ℕ) → takeText d text .desk .textLines ≡ d .textLines + 1
+unfolding takeText
+taken-counts d text = record-counts (countText d) (recordOf text)
 
 -- ---------------- what a byte leaves
 -- Text lines counted, and bytes pending.
@@ -76,11 +78,8 @@ byte-marks : (c : Carry) (b : ℕ) → 0 < marks (carryByte c b)
 unfolding carryByte
 byte-marks c b = go (eqb b lineFeed)
   where
-    ended : Carry
-    ended = record { desk = turn (c .desk) (c .pending) .desk; pending = [] }
-
-    go : (k : Bool) → 0 < marks (cond k ended (record { desk = c .desk; pending = keep (c .pending) b }))
-    go true = omega (arith, turn-counts (c .desk) (c .pending))
+    go : (k : Bool) → 0 < marks (carried c b k)
+    go true = omega (arith, taken-counts (c .desk) (c .pending))
     go false = omega (arith, keep-marks (c .pending) b)
 
 chunk-marks : (c : Carry) (b : ℕ) (bs : List ℕ) → 0 < marks (carryChunk c (b ∷ bs))

@@ -1,20 +1,21 @@
--- The output does not depend on how the input is cut into chunks: however it is cut, the program prints what the definition
--- says of the whole. The bytes kept of the unfinished text line stand for all of its bytes.
+-- The output does not depend on how the input is cut into chunks: however it is cut, the program prints what the
+-- definition says of the whole. The bytes kept of the unfinished text line stand for all of its bytes.
 use mathlib.Core.Path.{_≡_, refl, sym, _∙_, ap, subst}
 use mathlib.Core.Bool.{Bool, true, false, cond}
 use mathlib.Core.List.{List, [], _∷_, _++_, append-assoc, append-nil}
 use mathlib.Core.Logic.{_⊎_, inl, inr}
-use Prim.Native.Nat.{ℕ, suc, _+_, _≤_, _<_}
+use Prim.Native.Nat.{ℕ, _+_, _<_}
 use native.Mathlib.Omega.{arith}
-use borrow.Author.Tests.{le-leb, lt-leb, leb-true, leb-false}
+use borrow.Author.Tests.{lt-leb, leb-false}
 use lib.Dec.{eqb, leb}
 use lib.ListN.{length, length-append}
 use Rattle.words.specs.declared.Record.the-variants.{NotUnderstood}
 use Rattle.words.specs.Fields.{lineFeed, ontoFirst}
 use Rattle.words.specs.Records.{longest, recordOf}
-use Rattle.desk.specs.Desk.{Desk, opened, Turn, countText, turnOf, turn, bytesOf}
+use Rattle.desk.specs.Desk.{Desk, opened, countText, takeRecord, takeText, bytesOf}
 use Rattle.desk.specs.Program.{textLines, replies, program}
-use Rattle.desk.specs.Chunks.{Carry, begun, keep, carryByte, printByte, carryChunk, printChunk, lastLine, printLast, printChunks, joinAll}
+use Rattle.desk.specs.Chunks.{Carry, begun, keep, carryByte, printByte, carryChunk, printChunk}
+use Rattle.desk.specs.Chunks.{lastLine, printLast, printChunks, joinAll}
 
 -- ---------------- what is kept of a text line stands for it
 
@@ -26,17 +27,18 @@ long-record : (text : List ℕ) → longest < length text → recordOf text ≡ 
 unfolding recordOf
 long-record text h = simp (lt-leb (length text) longest h)
 
-stands-turn : (d : Desk) (kept text : List ℕ) → Stands kept text → turn d kept ≡ turn d text
-unfolding turn
-stands-turn d kept text (inl e) = ap (λ (t : List ℕ). turnOf (countText d) (recordOf t)) e
-stands-turn d kept text (inr h) = ap (turnOf (countText d)) (long-record kept (h .0) ∙ sym (long-record text (h .1)))
+stands-taken : (d : Desk) (kept text : List ℕ) → Stands kept text → takeText d kept ≡ takeText d text
+unfolding takeText
+stands-taken d kept text (inl e) = ap (λ (t : List ℕ). takeRecord (countText d) (recordOf t)) e
+stands-taken d kept text (inr h) = ap (takeRecord (countText d)) (long-record kept (h .0) ∙ sym (long-record text (h .1)))
 
 longer : (text : List ℕ) (b : ℕ) → length (text ++ b ∷ []) ≡ length text + 1
 longer text b = length-append text (b ∷ [])
 
 stands-keep : (kept text : List ℕ) (b : ℕ) → Stands kept text → Stands (keep kept b) (text ++ b ∷ [])
 stands-keep kept text b (inr h) =
-    inr (subst (λ (t : List ℕ). longest < length t) (sym (ap (λ (k : Bool). cond k (kept ++ b ∷ []) kept) (lt-leb (length kept) longest (h .0)))) (h .0), omega (arith, longer text b, h .1))
+    let full : kept ≡ keep kept b = rw (lt-leb (length kept) longest (h .0)) in
+    inr (subst (λ (t : List ℕ). longest < length t) full (h .0), omega (arith, longer text b, h .1))
 stands-keep kept text b (inl e) = go (leb (length kept) longest) refl
   where
     go : (k : Bool) → leb (length kept) longest ≡ k → Stands (cond k (kept ++ b ∷ []) kept) (text ++ b ∷ [])
@@ -73,8 +75,10 @@ last-line : (c : Carry) (text : List ℕ) → Stands (c .pending) text → print
 unfolding replies
 last-line c text h = go (c .pending) text h
   where
-    one : (x : ℕ) (xs kept : List ℕ) → Stands kept (x ∷ xs) → bytesOf (turn (c .desk) kept) ≡ bytesOf (turn (c .desk) (x ∷ xs)) ++ []
-    one x xs kept h = ap bytesOf (stands-turn (c .desk) kept (x ∷ xs) h) ∙ sym (append-nil (bytesOf (turn (c .desk) (x ∷ xs))))
+    one : (x : ℕ) (xs kept : List ℕ) → Stands kept (x ∷ xs) →
+        bytesOf (takeText (c .desk) kept) ≡ replies (c .desk) ((x ∷ xs) ∷ [])
+    one x xs kept h =
+        ap bytesOf (stands-taken (c .desk) kept (x ∷ xs) h) ∙ sym (append-nil (bytesOf (takeText (c .desk) (x ∷ xs))))
 
     differ : {X : Type 0} → _≡_ {A = ℕ} 0 1 → X
     differ e = absurd (omega arith)
@@ -87,59 +91,68 @@ last-line c text h = go (c .pending) text h
     go (k ∷ ks) [] (inr h) = absurd (let l = h .1 in omega arith)
     go (k ∷ ks) (x ∷ xs) h = one x xs (k ∷ ks) h
 
+-- What a byte comes to: at a line feed the pending bytes are a text line, and else the byte is kept.
 module _ (c : Carry) (b : ℕ) where
-  -- at a line feed the pending bytes are a text line, and else the byte is kept
-  abbrev fed : Carry
-  fed = record { desk = turn (c .desk) (c .pending) .desk; pending = [] }
+  abbrev pub carried : Bool → Carry
+  carried k =
+      cond k (record { desk = takeText (c .desk) (c .pending) .desk; pending = [] })
+      (record { desk = c .desk; pending = keep (c .pending) b })
 
-  abbrev kept : Carry
-  kept = record { desk = c .desk; pending = keep (c .pending) b }
+  abbrev pub printing : Bool → List ℕ
+  printing k = cond k (bytesOf (takeText (c .desk) (c .pending))) []
 
-  carry-feed : eqb b lineFeed ≡ true → carryByte c b ≡ fed
+  pub carry-byte : {k : Bool} → eqb b lineFeed ≡ k → carryByte c b ≡ carried k
   unfolding carryByte
-  carry-feed e = ap (λ (k : Bool). cond k fed kept) e
+  carry-byte e = ap carried e
 
-  carry-kept : eqb b lineFeed ≡ false → carryByte c b ≡ kept
-  unfolding carryByte
-  carry-kept e = ap (λ (k : Bool). cond k fed kept) e
-
-  print-feed : eqb b lineFeed ≡ true → printByte c b ≡ bytesOf (turn (c .desk) (c .pending))
+  pub print-byte : {k : Bool} → eqb b lineFeed ≡ k → printByte c b ≡ printing k
   unfolding printByte
-  print-feed e = ap (λ (k : Bool). cond k (bytesOf (turn (c .desk) (c .pending))) []) e
-
-  print-kept : eqb b lineFeed ≡ false → printByte c b ≡ []
-  unfolding printByte
-  print-kept e = ap (λ (k : Bool). cond k (bytesOf (turn (c .desk) (c .pending))) []) e
+  print-byte e = ap printing e
 
 -- a text line, and then the rest
-replies-first : (d : Desk) (text : List ℕ) (texts : List (List ℕ)) → replies d (text ∷ texts) ≡ bytesOf (turn d text) ++ replies (turn d text .desk) texts
+replies-first : (d : Desk) (text : List ℕ) (texts : List (List ℕ)) →
+    replies d (text ∷ texts) ≡ bytesOf (takeText d text) ++ replies (takeText d text .desk) texts
 unfolding replies
 replies-first d text texts = refl
 
--- what a chunk and the end of input print is what the definition says of the text lines
-chunk-then-end : (bs : List ℕ) (c : Carry) (text : List ℕ) → Stands (c .pending) text
-    → printChunk c bs ++ printLast (carryChunk c bs) ≡ replies (c .desk) (attach text (textLines bs))
+-- What a chunk and the end of input print is what the definition says of the text lines.
+abbrev Whole : List ℕ → Type 0
+Whole bs =
+    (c : Carry) (text : List ℕ) → Stands (c .pending) text →
+    printChunk c bs ++ printLast (carryChunk c bs) ≡ replies (c .desk) (attach text (textLines bs))
+
+chunk-then-end : (bs : List ℕ) → Whole bs
 unfolding printChunk carryChunk textLines
 chunk-then-end [] c text h = last-line c text h
 chunk-then-end (b ∷ bs) c text h = go (eqb b lineFeed) refl (chunk-then-end bs)
   where
-    go : (k : Bool) → eqb b lineFeed ≡ k
-        → ((c′ : Carry) (text′ : List ℕ) → Stands (c′ .pending) text′ → printChunk c′ bs ++ printLast (carryChunk c′ bs) ≡ replies (c′ .desk) (attach text′ (textLines bs)))
-        → (printByte c b ++ printChunk (carryByte c b) bs) ++ printLast (carryChunk (carryByte c b) bs)
+    -- what is printed once the byte is passed, and at the end
+    rest : Carry → List ℕ
+    rest d = printChunk d bs ++ printLast (carryChunk d bs)
+
+    passed : {k : Bool} → eqb b lineFeed ≡ k →
+        (printByte c b ++ printChunk (carryByte c b) bs) ++ printLast (carryChunk (carryByte c b) bs)
+        ≡ printing c b k ++ rest (carried c b k)
+    passed {k} q =
+        append-assoc (printByte c b) (printChunk (carryByte c b) bs) (printLast (carryChunk (carryByte c b) bs))
+        ∙ (λ i. print-byte c b q i ++ rest (carry-byte c b q i))
+
+    now : takeText (c .desk) (c .pending) ≡ takeText (c .desk) (text ++ [])
+    now = stands-taken (c .desk) (c .pending) text h ∙ ap (takeText (c .desk)) (sym (append-nil text))
+
+    go : (k : Bool) → eqb b lineFeed ≡ k → Whole bs →
+        (printByte c b ++ printChunk (carryByte c b) bs) ++ printLast (carryChunk (carryByte c b) bs)
         ≡ replies (c .desk) (attach text (cond k ([] ∷ textLines bs) (ontoFirst b (textLines bs))))
     go true q ih =
-        (λ i. (print-feed c b q i ++ printChunk (carry-feed c b q i) bs) ++ printLast (carryChunk (carry-feed c b q i) bs))
-        ∙ append-assoc (bytesOf (turn (c .desk) (c .pending))) (printChunk (fed c b) bs) (printLast (carryChunk (fed c b) bs))
-        ∙ ap (λ (rest : List ℕ). bytesOf (turn (c .desk) (c .pending)) ++ rest)
-        (ih (fed c b) [] (inl refl) ∙ ap (replies (fed c b .desk)) (attach-none (textLines bs)))
+        let next = carried c b true in
+        passed q
+        ∙ ap (λ (l : List ℕ). printing c b true ++ l)
+        (ih next [] (inl refl) ∙ ap (replies (next .desk)) (attach-none (textLines bs)))
         ∙ (λ i. bytesOf (now i) ++ replies (now i .desk) (textLines bs))
         ∙ sym (replies-first (c .desk) (text ++ []) (textLines bs))
-      where
-        now : turn (c .desk) (c .pending) ≡ turn (c .desk) (text ++ [])
-        now = stands-turn (c .desk) (c .pending) text h ∙ ap (turn (c .desk)) (sym (append-nil text))
     go false q ih =
-        (λ i. (print-kept c b q i ++ printChunk (carry-kept c b q i) bs) ++ printLast (carryChunk (carry-kept c b q i) bs))
-        ∙ ih (kept c b) (text ++ b ∷ []) (stands-keep (c .pending) text b h)
+        passed q
+        ∙ ih (carried c b false) (text ++ b ∷ []) (stands-keep (c .pending) text b h)
         ∙ ap (replies (c .desk)) (sym (attach-onto text b (textLines bs)))
 
 -- ---------------- chunk after chunk
@@ -149,20 +162,25 @@ unfolding carryChunk
 carry-append c [] ys = refl
 carry-append c (x ∷ xs) ys = carry-append (carryByte c x) xs ys
 
-pub print-append : (c : Carry) (xs ys : List ℕ) → printChunk c (xs ++ ys) ≡ printChunk c xs ++ printChunk (carryChunk c xs) ys
+pub print-append : (c : Carry) (xs ys : List ℕ) →
+    printChunk c (xs ++ ys) ≡ printChunk c xs ++ printChunk (carryChunk c xs) ys
 unfolding printChunk carryChunk
 print-append c [] ys = refl
 print-append c (x ∷ xs) ys =
-    ap (λ (rest : List ℕ). printByte c x ++ rest) (print-append (carryByte c x) xs ys)
-    ∙ sym (append-assoc (printByte c x) (printChunk (carryByte c x) xs) (printChunk (carryChunk (carryByte c x) xs) ys))
+    let d = carryByte c x in
+    ap (λ (rest : List ℕ). printByte c x ++ rest) (print-append d xs ys)
+    ∙ sym (append-assoc (printByte c x) (printChunk d xs) (printChunk (carryChunk d xs) ys))
 
-chunks-joined : (c : Carry) (chunks : List (List ℕ)) → printChunks c chunks ≡ printChunk c (joinAll chunks) ++ printLast (carryChunk c (joinAll chunks))
+chunks-joined : (c : Carry) (chunks : List (List ℕ)) → let all = joinAll chunks in
+    printChunks c chunks ≡ printChunk c all ++ printLast (carryChunk c all)
 unfolding printChunks joinAll printChunk carryChunk
 chunks-joined c [] = refl
 chunks-joined c (chunk ∷ chunks) =
-    ap (λ (rest : List ℕ). printChunk c chunk ++ rest) (chunks-joined (carryChunk c chunk) chunks)
-    ∙ sym (append-assoc (printChunk c chunk) (printChunk (carryChunk c chunk) (joinAll chunks)) (printLast (carryChunk (carryChunk c chunk) (joinAll chunks))))
-    ∙ sym (λ i. print-append c chunk (joinAll chunks) i ++ printLast (carry-append c chunk (joinAll chunks) i))
+    let d = carryChunk c chunk in
+    let all = joinAll chunks in
+    ap (λ (rest : List ℕ). printChunk c chunk ++ rest) (chunks-joined d chunks)
+    ∙ sym (append-assoc (printChunk c chunk) (printChunk d all) (printLast (carryChunk d all)))
+    ∙ sym (λ i. print-append c chunk all i ++ printLast (carry-append c chunk all i))
 
 -- however the input is cut into chunks, what is printed is what the definition says of all of it
 pub cut-anyhow : (chunks : List (List ℕ)) → printChunks begun chunks ≡ program (joinAll chunks)

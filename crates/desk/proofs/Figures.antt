@@ -12,10 +12,11 @@ use Rattle.rules.specs.Questions.{shortfall, farFrom, nearVisit, nearReply}
 use Rattle.rules.specs.Build.{lowest, buildRefusal, tableOf}
 use Rattle.numerals.specs.Numerals.{allDigits, valueFrom, numeral}
 use Rattle.words.specs.Fields.{fields, sameBytes}
-use Rattle.words.specs.Records.{recordOf}
+use Rattle.words.specs.Numbers.{understood}
+use Rattle.words.specs.Records.{is, recordOf}
 use Rattle.print.specs.Decimal.{digitsOf}
 use Rattle.print.specs.Printed.{printed}
-use Rattle.desk.specs.Desk.{withTable, turn}
+use Rattle.desk.specs.Desk.{withTable, takeText}
 use Rattle.desk.specs.Program.{textLines, replies, program}
 
 abbrev read : List ℕ
@@ -31,6 +32,7 @@ written =
     ∷ 66 ∷ 9 ∷ 48 ∷ 10 ∷ []
 
 pub whole-case : program read ≡ written
-unfolding least greatest height better best splitOf rowAt measured rowsOf direction between within walk good shortfall farFrom nearVisit nearReply
-    lowest buildRefusal tableOf fields sameBytes allDigits valueFrom numeral recordOf digitsOf printed withTable turn textLines replies program
+unfolding least greatest height better best splitOf rowAt measured rowsOf direction between within walk good shortfall
+    farFrom nearVisit nearReply lowest buildRefusal tableOf fields sameBytes allDigits valueFrom numeral understood
+    is recordOf digitsOf printed withTable takeText textLines replies program
 whole-case = refl

@@ -1,13 +1,14 @@
--- The same program as it is carried from byte to byte, and so from chunk to chunk: the desk, and the bytes of the text line
--- that has not ended. Of a text line that is too long one byte more than it may have is kept: it is not understood in any case.
+-- The same program as it is carried from byte to byte, and so from chunk to chunk: the desk, and the bytes of the text
+-- line that has not ended. Of a text line that is too long one byte more than it may have is kept: it is not understood
+-- in any case.
 use mathlib.Core.Bool.{cond}
 use mathlib.Core.List.{List, [], _∷_, _++_}
-use Prim.Native.Nat.{ℕ, suc}
+use Prim.Native.Nat.{ℕ}
 use lib.Dec.{eqb, leb}
 use lib.ListN.{length}
 use Rattle.words.specs.Fields.{lineFeed}
 use Rattle.words.specs.Records.{longest}
-use Rattle.desk.specs.Desk.{Desk, opened, turn, bytesOf}
+use Rattle.desk.specs.Desk.{Desk, opened, takeText, bytesOf}
 
 pub record Carry : Type 0 where
   pub desk : Desk
@@ -22,11 +23,11 @@ keep text b = cond (leb (length text) longest) (text ++ b ∷ []) text
 -- what is carried past a byte, and the bytes that it prints
 unfoldable pub carryByte : Carry → ℕ → Carry
 carryByte c b =
-    cond (eqb b lineFeed) (record { desk = turn (c .desk) (c .pending) .desk; pending = [] })
+    cond (eqb b lineFeed) (record { desk = takeText (c .desk) (c .pending) .desk; pending = [] })
     (record { desk = c .desk; pending = keep (c .pending) b })
 
 unfoldable pub printByte : Carry → ℕ → List ℕ
-printByte c b = cond (eqb b lineFeed) (bytesOf (turn (c .desk) (c .pending))) []
+printByte c b = cond (eqb b lineFeed) (bytesOf (takeText (c .desk) (c .pending))) []
 
 -- past all the bytes of a chunk
 unfoldable pub carryChunk : Carry → List ℕ → Carry
@@ -40,7 +41,7 @@ printChunk c (b ∷ bs) = printByte c b ++ printChunk (carryByte c b) bs
 -- a last text line may lack its line feed
 abbrev pub lastLine : Desk → List ℕ → List ℕ
 lastLine d [] = []
-lastLine d (b ∷ bs) = bytesOf (turn d (b ∷ bs))
+lastLine d (b ∷ bs) = bytesOf (takeText d (b ∷ bs))
 
 abbrev pub printLast : Carry → List ℕ
 printLast c = lastLine (c .desk) (c .pending)

@@ -2,15 +2,15 @@
 use mathlib.Core.Bool.{Bool, true, false, cond}
 use mathlib.Core.List.{List, [], _∷_, _++_}
 use mathlib.Core.Option.{Option, none, some}
-use Prim.Native.Nat.{ℕ, _+_, _*_}
+use Prim.Native.Nat.{ℕ, _+_}
 use lib.Dec.{ltb}
 use lib.IntN.{ℤ}
-use lib.ListN.{length}
 use Rattle.rules.specs.declared.Line.{Line}
 use Rattle.rules.specs.declared.Line.the-variants.{NoLine, LineA, LineB}
 use Rattle.rules.specs.declared.Refusal.{Refusal}
 use Rattle.rules.specs.Sheet.{pointsOf}
-use Rattle.rules.specs.Reply.{Reply, refuses}
+use Rattle.rules.specs.declared.Reply.{Reply}
+use Rattle.rules.specs.Reply.{refuses}
 use Rattle.rules.specs.Questions.{nearReply, meetReply, inReply, agreeReply}
 use Rattle.rules.specs.Build.{buildRefusal, tableOf}
 use Rattle.words.specs.declared.Record.{Record}
@@ -26,7 +26,7 @@ pub record Store : Type 0 where
 abbrev pub empty : Store
 empty = record { points = []; over = false }
 
--- 257 points in a store of 514 numbers
+-- a line's store has room for 257 points
 abbrev pub room : ℕ
 room = 257
 
@@ -48,17 +48,21 @@ storeOf d LineB = d .b
 
 abbrev pub putStore : Desk → Line → Store → Desk
 putStore d NoLine s = d
-putStore d LineA s = record { target = d .target; a = s; b = d .b; textLines = d .textLines; printedLines = d .printedLines }
-putStore d LineB s = record { target = d .target; a = d .a; b = s; textLines = d .textLines; printedLines = d .printedLines }
+putStore d LineA s =
+    record { target = d .target; a = s; b = d .b; textLines = d .textLines; printedLines = d .printedLines }
+putStore d LineB s =
+    record { target = d .target; a = d .a; b = s; textLines = d .textLines; printedLines = d .printedLines }
 
 abbrev pub aimAt : Desk → Line → Desk
 aimAt d l = record { target = l; a = d .a; b = d .b; textLines = d .textLines; printedLines = d .printedLines }
 
 abbrev pub countText : Desk → Desk
-countText d = record { target = d .target; a = d .a; b = d .b; textLines = d .textLines + 1; printedLines = d .printedLines }
+countText d =
+    record { target = d .target; a = d .a; b = d .b; textLines = d .textLines + 1; printedLines = d .printedLines }
 
 abbrev pub countPrinted : Desk → Desk
-countPrinted d = record { target = d .target; a = d .a; b = d .b; textLines = d .textLines; printedLines = d .printedLines + 1 }
+countPrinted d =
+    record { target = d .target; a = d .a; b = d .b; textLines = d .textLines; printedLines = d .printedLines + 1 }
 
 -- ---- refusals of the program: 12 has no line, 13 the line above 257 points; the place is the text line
 abbrev pub refusedAt : ℕ → Line → ℕ → Reply
@@ -81,44 +85,45 @@ abbrev pub ofBoth : Desk → (List ℤ → List ℤ → Reply) → Reply
 ofBoth d go = ofA d (λ t. withTable LineB (d .b) (d .textLines) (λ t′. go t t′))
 
 -- ---- what a text line comes to: the desk, and the reply that is printed, if any
-pub record Turn : Type 0 where
+pub record Taken : Type 0 where
   pub desk : Desk
   pub said : Option Reply
 
-abbrev pub quiet : Desk → Turn
+abbrev pub quiet : Desk → Taken
 quiet d = record { desk = d; said = none }
 
-abbrev pub saying : Desk → Reply → Turn
+abbrev pub saying : Desk → Reply → Taken
 saying d r = record { desk = countPrinted d; said = some r }
 
 -- each point past the 257th is refusal 13 and isn't stored; points before any LINE are refusal 12
-abbrev pub addPoint : Desk → Line → ℤ → ℤ → Turn
+abbrev pub addPoint : Desk → Line → ℤ → ℤ → Taken
 addPoint d l x y =
     cond (ltb (pointsOf (storeOf d l .points)) room)
     (quiet (putStore d l (record { points = storeOf d l .points ++ x ∷ y ∷ []; over = storeOf d l .over })))
     (saying (putStore d l (record { points = storeOf d l .points; over = true })) (refusedAt 13 l (d .textLines)))
 
-abbrev pub takePoint : Desk → Line → ℤ → ℤ → Turn
+abbrev pub takePoint : Desk → Line → ℤ → ℤ → Taken
 takePoint d NoLine x y = saying d (refusedAt 12 NoLine (d .textLines))
 takePoint d LineA x y = addPoint d LineA x y
 takePoint d LineB x y = addPoint d LineB x y
 
-abbrev pub turnOf : Desk → Record → Turn
-turnOf d (Start l) = quiet (aimAt (putStore d l empty) l)
-turnOf d (Pt x y) = takePoint d (d .target) x y
-turnOf d (Near x y D allowance) = saying d (ofA d (λ t. nearReply (d .a .points) t (record { x = x; y = y }) D allowance))
-turnOf d (In x y allowance) = saying d (ofA d (λ t. inReply (d .a .points) t (record { x = x; y = y }) allowance))
-turnOf d (Meet allowance) = saying d (ofBoth d (λ t t′. meetReply (d .a .points) t (d .b .points) t′ allowance))
-turnOf d (Agree D allowance) = saying d (ofBoth d (λ t t′. agreeReply (d .a .points) t (d .b .points) t′ D allowance))
-turnOf d NotUnderstood = saying d (refusedAt 12 NoLine (d .textLines))
+abbrev pub takeRecord : Desk → Record → Taken
+takeRecord d (Start l) = quiet (aimAt (putStore d l empty) l)
+takeRecord d (Pt x y) = takePoint d (d .target) x y
+takeRecord d (Near x y D allowance) =
+    saying d (ofA d (λ t. nearReply (d .a .points) t (record { x = x; y = y }) D allowance))
+takeRecord d (In x y allowance) = saying d (ofA d (λ t. inReply (d .a .points) t (record { x = x; y = y }) allowance))
+takeRecord d (Meet allowance) = saying d (ofBoth d (λ t t′. meetReply (d .a .points) t (d .b .points) t′ allowance))
+takeRecord d (Agree D allowance) = saying d (ofBoth d (λ t t′. agreeReply (d .a .points) t (d .b .points) t′ D allowance))
+takeRecord d NotUnderstood = saying d (refusedAt 12 NoLine (d .textLines))
 
-unfoldable pub turn : Desk → List ℕ → Turn
-turn d text = turnOf (countText d) (recordOf text)
+unfoldable pub takeText : Desk → List ℕ → Taken
+takeText d text = takeRecord (countText d) (recordOf text)
 
--- ---- the bytes that a turn prints: the ordinal is that of the printed line
+-- ---- the bytes that are printed of what is taken: the ordinal is that of the printed line
 abbrev pub saidBytes : Option Reply → ℕ → List ℕ
 saidBytes none ordinal = []
 saidBytes (some r) ordinal = printed ordinal r
 
-abbrev pub bytesOf : Turn → List ℕ
+abbrev pub bytesOf : Taken → List ℕ
 bytesOf t = saidBytes (t .said) (t .desk .printedLines)

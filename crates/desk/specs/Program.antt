@@ -4,7 +4,7 @@ use mathlib.Core.List.{List, [], _∷_, _++_}
 use Prim.Native.Nat.{ℕ}
 use lib.Dec.{eqb}
 use Rattle.words.specs.Fields.{lineFeed, ontoFirst}
-use Rattle.desk.specs.Desk.{Desk, opened, turn, bytesOf}
+use Rattle.desk.specs.Desk.{Desk, opened, takeText, bytesOf}
 
 -- the text lines: an empty rest after the last line feed is none
 unfoldable pub textLines : List ℕ → List (List ℕ)
@@ -14,7 +14,7 @@ textLines (b ∷ bs) = let rest = textLines bs in cond (eqb b lineFeed) ([] ∷ 
 -- one after another
 unfoldable pub replies : Desk → List (List ℕ) → List ℕ
 replies d [] = []
-replies d (text ∷ texts) = bytesOf (turn d text) ++ replies (turn d text .desk) texts
+replies d (text ∷ texts) = bytesOf (takeText d text) ++ replies (takeText d text .desk) texts
 
 unfoldable pub program : List ℕ → List ℕ
 program bytes = replies opened (textLines bytes)

@@ -1,5 +1,5 @@
-// The question program as definitions: what it keeps, what a text line comes to, and the bytes that it writes for the bytes
-// that it reads, however they are cut. The code stands in the crates above.
+// The question program as definitions: what it keeps, what a text line comes to, and the bytes that it writes for the
+// bytes that it reads, however they are cut. The code stands in the crates above.
 // A line's points that are stored, and whether a point past the 257th came.
 pub struct Held {
     pub count: usize,

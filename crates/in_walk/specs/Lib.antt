@@ -1,2 +1,2 @@
 -- What the contracts of `in_walk` are said with.
-pub mod Said
+pub mod Walks

@@ -9,7 +9,8 @@ use Rattle.rules.specs.declared.Line.the-variants.{LineA}
 use Rattle.rules.specs.declared.Point.{Point}
 use Rattle.rules.specs.declared.Refusal.{Refusal}
 use Rattle.rules.specs.Sheet.{onSheet}
-use Rattle.rules.specs.Reply.{Reply, early, firstRefusal, orRefused}
+use Rattle.rules.specs.declared.Reply.{Reply}
+use Rattle.rules.specs.Reply.{early, firstRefusal, orRefused}
 use Rattle.rules.specs.Rows.{lengthChecks, askedCheck, ringCheck}
 use Rattle.rules.specs.Walk.{fresh}
 use Rattle.rules.specs.Questions.{inWalk, sideOfRing, inReply}

@@ -8,15 +8,17 @@ use line::point_at;
 use line::same_point;
 use rules::Line;
 use rules::Point;
-use rules::Side;
+use rules::Reply;
+use rules::Word;
+use rules::refuses;
+use rules::says;
 ghost use mathlib.Core.Path.{_≡_};
 ghost use mathlib.Core.Bool.{true, false};
 ghost use Prim.Native.Nat.{_≤_};
 ghost use lib.ListN.{length};
 ghost use Rattle.rules.specs.Questions.{sideOfRing, inReply};
-ghost use Rattle.rules.specs.Reply.{sideReply};
 ghost use Rattle.rules.specs.Rows.{ringCheck};
-ghost use Rattle.ends.specs.Came.{cameTo};
+ghost use Rattle.ending.specs.Ending.{walkedIn};
 
 // Refusal 9: fewer than 4 points, or first and last differ.
 fn no_ring(points: &[i32]) -> bool
@@ -31,38 +33,38 @@ fn no_ring(points: &[i32]) -> bool
 }
 
 // Inside when the count is odd.
-fn side_of_ring(came: u64, allowance: u32) -> Side
-    ensures { λ r. ⌜ sideReply r ≡ sideOfRing allowance (cameTo false true Line.LineA Line.LineA allowance came) ⌝ }
+fn side_of_ring(ending: u64, allowance: u32) -> Reply
+    ensures { λ r. ⌜ r ≡ sideOfRing allowance (walkedIn false true Line.LineA Line.LineA allowance ending) ⌝ }
 {
-    let end = ends::end_in(came);
-    let visits = ends::visits_in(came);
-    if end < ends::ENDED {
-        if end == ends::ODD {
-            return Side::Inside(visits);
+    let end = ending::end_in(ending);
+    let visits = ending::visits_in(ending);
+    if end < ending::ENDED {
+        if end == ending::ODD {
+            return says(Word::INSIDE, visits);
         }
-        return Side::Outside(visits);
+        return says(Word::OUTSIDE, visits);
     }
-    if end == ends::ENDED {
-        return Side::OnEdge(visits);
+    if end == ending::ENDED {
+        return says(Word::ON, visits);
     }
-    if end == ends::SPENT {
-        return Side::Undecided(allowance);
+    if end == ending::SPENT {
+        return says(Word::UNDECIDED, allowance);
     }
-    Side::Refused(ends::refusal(Line::LineA, Line::LineA, came))
+    refuses(ending::refusal(Line::LineA, Line::LineA, ending))
 }
 
 // Which side of the ring z is on, by at most this many visits. Refusals 1, 2, 3, 6, 8, 9, then the walk.
-pub fn inside(points: &[i32], table: &[i32], z: Point, allowance: u32) -> Side
-    ensures { λ r. ⌜ sideReply r ≡ inReply (now (points .entry)) (now (table .entry)) z allowance ⌝ }
+pub fn inside(points: &[i32], table: &[i32], z: Point, allowance: u32) -> Reply
+    ensures { λ r. ⌜ r ≡ inReply (now (points .entry)) (now (table .entry)) z allowance ⌝ }
 {
     if let Checked::Refused(refusal) = check_lengths(Line::LineA, points, table) {
-        return Side::Refused(refusal);
+        return refuses(refusal);
     }
     if !on_sheet(z) {
-        return Side::Refused(early(8, Line::NoLine));
+        return refuses(early(8, Line::NoLine));
     }
     if no_ring(points) {
-        return Side::Refused(early(9, Line::LineA));
+        return refuses(early(9, Line::LineA));
     }
     side_of_ring(in_walk::ask(&points, &table, z, allowance), allowance)
 }

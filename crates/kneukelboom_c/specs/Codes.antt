@@ -4,7 +4,10 @@ use Prim.Native.Nat.{ℕ}
 use Rattle.rules.specs.declared.Line.{Line}
 use Rattle.rules.specs.declared.Line.the-variants.{NoLine, LineA, LineB}
 use Rattle.rules.specs.declared.Refusal.{Refusal}
-use Rattle.rules.specs.Reply.{Word, YES, NO, INSIDE, OUTSIDE, ON, UNDECIDED, REFUSED, Reply, refuses}
+use Rattle.rules.specs.declared.Word.{Word}
+use Rattle.rules.specs.declared.Word.the-variants.{YES, NO, INSIDE, OUTSIDE, ON, UNDECIDED, REFUSED}
+use Rattle.rules.specs.declared.Reply.{Reply}
+use Rattle.rules.specs.Reply.{refuses}
 use Rattle.kneukelboom_c.specs.declared.KneukelboomReply.{KneukelboomReply}
 
 abbrev pub wordCode : Word → ℕ
@@ -22,11 +25,15 @@ lineCode LineA = 1
 lineCode LineB = 2
 
 abbrev pub coded : Reply → KneukelboomReply
-coded r = record { word = wordCode (r .word); visits = r .visits; number = r .number; line = lineCode (r .line); place = r .place }
-
-abbrev pub plainly : ℕ → ℕ → KneukelboomReply
-plainly word visits = record { word = word; visits = visits; number = 0; line = 0; place = 0 }
+coded r =
+    record {
+      word = wordCode (r .word);
+      visits = r .visits;
+      number = r .number;
+      line = lineCode (r .line);
+      place = r .place;
+    }
 
 abbrev pub codedBuild : Option Refusal → KneukelboomReply
-codedBuild none = plainly 0 0
+codedBuild none = record { word = 0; visits = 0; number = 0; line = 0; place = 0 }
 codedBuild (some r) = coded (refuses r)

@@ -1,19 +1,19 @@
-// The proved library for C, Rust and whatever links them: slices as pointer and length, answers as one struct of plain
+// The proved library for C, Rust and whatever links them: slices as pointer and length, replies as one struct of plain
 // numbers. No call requires anything of its numbers: whatever is passed is answered.
-use rules::Agreement;
-use rules::Answer;
 use rules::Built;
 use rules::Line;
 use rules::Point;
-use rules::Refusal;
-use rules::Side;
+use rules::Reply;
+use rules::Word;
+use rules::refuses;
 ghost use mathlib.Core.Path.{_≡_};
+ghost use mathlib.Core.Option.{none};
 ghost use Rattle.rules.specs.Build.{buildRefusal, builtTable};
 ghost use Rattle.rules.specs.Questions.{nearReply, meetReply, inReply, agreeReply};
-ghost use Rattle.rules.specs.Reply.{says, refuses, answerReply, sideReply, agreementReply};
-ghost use Rattle.kneukelboom_c.specs.Codes.{lineCode, coded, codedBuild, plainly};
+ghost use Rattle.kneukelboom_c.specs.Codes.{wordCode, lineCode, coded, codedBuild};
 
-// An answer in numbers: the word's code, the visits, the refusal number or 0, the line's code, the place or 0.
+// What a call answers, in numbers: the word's code, the visits, the refusal number or 0, the line's code, and the
+// place or 0.
 #[repr(C)]
 pub struct KneukelboomReply {
     pub word: u32,
@@ -33,79 +33,45 @@ fn line_code(line: Line) -> u32
     }
 }
 
-// A word and its visits, with no refusal.
-fn plain(word: u32, visits: u32) -> KneukelboomReply
-    ensures { λ r. ⌜ r ≡ plainly word visits ⌝ }
+fn word_code(word: Word) -> u32
+    ensures { λ r. ⌜ r ≡ wordCode word ⌝ }
+{
+    match word {
+        Word::YES => 1,
+        Word::NO => 2,
+        Word::INSIDE => 3,
+        Word::OUTSIDE => 4,
+        Word::ON => 5,
+        Word::UNDECIDED => 6,
+        Word::REFUSED => 7,
+    }
+}
+
+// A reply in numbers.
+fn coded(reply: Reply) -> KneukelboomReply
+    ensures { λ r. ⌜ r ≡ coded reply ⌝ }
+{
+    let word = reply.word;
+    let line = reply.line;
+    KneukelboomReply {
+        word: word_code(word),
+        visits: reply.visits,
+        number: reply.number,
+        line: line_code(line),
+        place: reply.place as u64,
+    }
+}
+
+// A built table, in numbers.
+fn written() -> KneukelboomReply
+    ensures { λ r. ⌜ r ≡ codedBuild none ⌝ }
 {
     KneukelboomReply {
-        word,
-        visits,
+        word: 0,
+        visits: 0,
         number: 0,
         line: 0,
         place: 0,
-    }
-}
-
-fn refused(refusal: Refusal) -> KneukelboomReply
-    ensures { λ r. ⌜ r ≡ coded (refuses refusal) ⌝ }
-{
-    let line = refusal.line;
-    KneukelboomReply {
-        word: 7,
-        visits: refusal.visits,
-        number: refusal.number,
-        line: line_code(line),
-        place: refusal.place as u64,
-    }
-}
-
-fn disagreed(line: Line, point: usize, visits: u32) -> KneukelboomReply
-    ensures { λ r. ⌜ r ≡ record { word = 2; visits = visits; number = 0; line = lineCode line; place = point } ⌝ }
-{
-    KneukelboomReply {
-        word: 2,
-        visits,
-        number: 0,
-        line: line_code(line),
-        place: point as u64,
-    }
-}
-
-fn of_answer(answer: Answer) -> KneukelboomReply
-    ensures { λ r. ⌜ r ≡ coded (answerReply answer) ⌝ }
-{
-    match answer {
-        Answer::Yes(visits) => plain(1, visits),
-        Answer::No(visits) => plain(2, visits),
-        Answer::Undecided(visits) => plain(6, visits),
-        Answer::Refused(refusal) => refused(refusal),
-    }
-}
-
-fn of_side(side: Side) -> KneukelboomReply
-    ensures { λ r. ⌜ r ≡ coded (sideReply side) ⌝ }
-{
-    match side {
-        Side::Inside(visits) => plain(3, visits),
-        Side::Outside(visits) => plain(4, visits),
-        Side::OnEdge(visits) => plain(5, visits),
-        Side::Undecided(visits) => plain(6, visits),
-        Side::Refused(refusal) => refused(refusal),
-    }
-}
-
-fn of_agreement(agreement: Agreement) -> KneukelboomReply
-    ensures { λ r. ⌜ r ≡ coded (agreementReply agreement) ⌝ }
-{
-    match agreement {
-        Agreement::Yes(visits) => plain(1, visits),
-        Agreement::No {
-            line,
-            point,
-            visits,
-        } => disagreed(line, point, visits),
-        Agreement::Undecided(visits) => plain(6, visits),
-        Agreement::Refused(refusal) => refused(refusal),
     }
 }
 
@@ -115,8 +81,8 @@ pub extern "C" fn kneukelboom_build(points: &[i32], table: &mut [i32]) -> Kneuke
     ensures { λ _. ⌜ now (table .exit) ≡ builtTable (now (points .entry)) (now (table .entry)) ⌝ }
 {
     match build::build(points, table) {
-        Built::Whole => plain(0, 0),
-        Built::Refused(refusal) => refused(refusal),
+        Built::Written => written(),
+        Built::Refused(refusal) => coded(refuses(refusal)),
     }
 }
 
@@ -129,9 +95,10 @@ pub extern "C" fn kneukelboom_near(
     distance: i64,
     allowance: u32,
 ) -> KneukelboomReply
-    ensures { λ r. ⌜ r ≡ coded (nearReply (now (points .entry)) (now (table .entry)) (record { x = x; y = y }) distance allowance) ⌝ }
+    ensures { λ r. ⌜ r ≡ coded (nearReply (now (points .entry)) (now (table .entry))
+        (record { x = x; y = y }) distance allowance) ⌝ }
 {
-    of_answer(near::near(points, table, Point { x, y }, distance, allowance))
+    coded(near::near(points, table, Point { x, y }, distance, allowance))
 }
 
 #[no_mangle]
@@ -142,9 +109,10 @@ pub extern "C" fn kneukelboom_inside(
     y: i64,
     allowance: u32,
 ) -> KneukelboomReply
-    ensures { λ r. ⌜ r ≡ coded (inReply (now (points .entry)) (now (table .entry)) (record { x = x; y = y }) allowance) ⌝ }
+    ensures { λ r. ⌜ r ≡ coded (inReply (now (points .entry)) (now (table .entry))
+        (record { x = x; y = y }) allowance) ⌝ }
 {
-    of_side(inside::inside(points, table, Point { x, y }, allowance))
+    coded(inside::inside(points, table, Point { x, y }, allowance))
 }
 
 #[no_mangle]
@@ -155,9 +123,10 @@ pub extern "C" fn kneukelboom_meet(
     table_b: &[i32],
     allowance: u32,
 ) -> KneukelboomReply
-    ensures { λ r. ⌜ r ≡ coded (meetReply (now («points_a» .entry)) (now («table_a» .entry)) (now («points_b» .entry)) (now («table_b» .entry)) allowance) ⌝ }
+    ensures { λ r. ⌜ r ≡ coded (meetReply (now («points_a» .entry)) (now («table_a» .entry))
+        (now («points_b» .entry)) (now («table_b» .entry)) allowance) ⌝ }
 {
-    of_answer(meet::meet(points_a, table_a, points_b, table_b, allowance))
+    coded(meet::meet(points_a, table_a, points_b, table_b, allowance))
 }
 
 #[no_mangle]
@@ -169,7 +138,8 @@ pub extern "C" fn kneukelboom_agree(
     distance: i64,
     allowance: u32,
 ) -> KneukelboomReply
-    ensures { λ r. ⌜ r ≡ coded (agreeReply (now («points_a» .entry)) (now («table_a» .entry)) (now («points_b» .entry)) (now («table_b» .entry)) distance allowance) ⌝ }
+    ensures { λ r. ⌜ r ≡ coded (agreeReply (now («points_a» .entry)) (now («table_a» .entry))
+        (now («points_b» .entry)) (now («table_b» .entry)) distance allowance) ⌝ }
 {
-    of_agreement(agree::agree(points_a, table_a, points_b, table_b, distance, allowance))
+    coded(agree::agree(points_a, table_a, points_b, table_b, distance, allowance))
 }

@@ -6,9 +6,9 @@ use lib.IntN.{ℤ}
 use mir.Syntax.{w64}
 use mir.Val.{toZ, ofZ}
 use mir.Facts.{toZ-ofZ}
-use Rattle.whole.specs.Range.{Abs≤, abs-at, fits-of}
+use Rattle.integers.specs.Range.{Abs≤, abs-at, fits-of}
 use Rattle.rules.specs.declared.Point.{Point}
-use Rattle.visits.specs.Small.{OnSheet}
+use Rattle.limits.specs.Small.{OnSheet}
 
 -- what is read back is the number
 pub stored : {B : ℕ} {z : ℤ} → Abs≤ B z → T (ltb B (2 ^ 63)) → toZ w64 (ofZ w64 z) ≡ z

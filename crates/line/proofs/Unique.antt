@@ -5,7 +5,7 @@ use Rattle.rules.specs.declared.Refusal.{Refusal}
 use Rattle.rules.proofs.Unique.{said-once}
 use Rattle.line.specs.declared.Checked.{Checked}
 use Rattle.line.specs.declared.Checked.the-variants.{Fine, Refused}
-use Rattle.line.specs.Said.{checkedRefusal}
+use Rattle.line.specs.Checked.{checkedRefusal}
 
 checkedBack : Option Refusal → Checked
 checkedBack none = Fine

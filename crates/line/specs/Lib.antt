@@ -1,3 +1,2 @@
 -- What the contracts of `line` are said with.
-pub mod Fine
-pub mod Said
+pub mod Checked

@@ -1,19 +1,25 @@
-// Points as the machine reads them: a point out of a slice, steps, c and t, and the lengths that refusals 1, 2, 3 and 6 ask
-// for. Every function says its result by a definition of `rules`.
+// Points as the machine reads them: a point out of a slice, steps, c and t, and the lengths that refusals 1, 2, 3 and 6
+// ask for. Every function says its result by a definition of `rules`.
+use integers::wide;
+use limits::FEWEST;
+use limits::LIMIT;
+use limits::MOST;
+use limits::NUMBER_LIMIT;
+use limits::WIDTH;
 use rules::Line;
 use rules::Point;
 use rules::Refusal;
-use whole::wide;
 ghost use mathlib.Core.Path.{_≡_};
 ghost use Prim.Native.Nat.{_+_, _*_, _<_};
+ghost use lib.IntN.{_+ℤ_, _-ℤ_, _*ℤ_};
 ghost use lib.ListN.{length};
-ghost use Rattle.whole.specs.Order.{minZ, maxZ};
+ghost use Rattle.integers.specs.Order.{minZ, maxZ};
 ghost use Rattle.rules.specs.Plane.{samePoint, step, direction, cAt, tAt, size²};
 ghost use Rattle.rules.specs.Sheet.{point, inSheet, onSheet};
 ghost use Rattle.rules.specs.Reply.{firstRefusal};
 ghost use Rattle.rules.specs.Rows.{lengthChecks};
-ghost use Rattle.line.specs.Said.{checkedRefusal};
-ghost use Rattle.visits.specs.Small.{OnSheet, Small};
+ghost use Rattle.line.specs.Checked.{checkedRefusal};
+ghost use Rattle.limits.specs.Small.{OnSheet, Small};
 
 pub fn lesser(a: i64, b: i64) -> i64
     ensures { λ r. ⌜ r ≡ minZ a b ⌝ }
@@ -26,9 +32,6 @@ pub fn greater(a: i64, b: i64) -> i64
 {
     if a < b { b } else { a }
 }
-
-// Coordinates are -LIMIT to LIMIT.
-pub const LIMIT: i64 = 16383;
 
 // Point i of a line.
 pub fn point_at(points: &[i32], i: usize) -> Point
@@ -53,16 +56,14 @@ pub fn on_sheet(p: Point) -> bool
     in_sheet(p.x) && in_sheet(p.y)
 }
 
-// The limit for a number of a slice.
-const NUMBER_LIMIT: i32 = 16383;
-
 fn number_in_sheet(v: i32) -> bool
     ensures { λ r. ⌜ r ≡ inSheet v ⌝ }
 {
     (-NUMBER_LIMIT <= v) & (v <= NUMBER_LIMIT)
 }
 
-// Whether point i of a line is on the sheet, asked of its numbers as they stand: vector instructions compare four of them at once.
+// Whether point i of a line is on the sheet, asked of its numbers as they stand: vector instructions compare four
+// of them at once.
 pub fn on_sheet_at(points: &[i32], i: usize) -> bool
     requires { ⌜ 2 * i + 1 < length (now points) ⌝ }
     ensures { λ r. ⌜ r ≡ onSheet (point (now (points .entry)) i) ⌝ }
@@ -98,25 +99,40 @@ pub fn direction(a: Point, b: Point) -> Point
     step(a, b)
 }
 
+// The products of two steps: c, t and |u|^2 are made of them.
+fn cross(u: Point, v: Point) -> i64
+    requires { ⌜ Small u × Small v ⌝ }
+    ensures { λ r. ⌜ r ≡ u .x *ℤ v .y -ℤ u .y *ℤ v .x ⌝ }
+{
+    u.x * v.y - u.y * v.x
+}
+
+fn dot(u: Point, v: Point) -> i64
+    requires { ⌜ Small u × Small v ⌝ }
+    ensures { λ r. ⌜ r ≡ u .x *ℤ v .x +ℤ u .y *ℤ v .y ⌝ }
+{
+    u.x * v.x + u.y * v.y
+}
+
 pub fn c_at(s: Point, u: Point, p: Point) -> i64
     requires { ⌜ OnSheet s × Small u × OnSheet p ⌝ }
     ensures { λ r. ⌜ r ≡ cAt s u p ⌝ }
 {
-    u.x * (p.y - s.y) - u.y * (p.x - s.x)
+    cross(u, step(s, p))
 }
 
 pub fn t_at(s: Point, u: Point, p: Point) -> i64
     requires { ⌜ OnSheet s × Small u × OnSheet p ⌝ }
     ensures { λ r. ⌜ r ≡ tAt s u p ⌝ }
 {
-    u.x * (p.x - s.x) + u.y * (p.y - s.y)
+    dot(u, step(s, p))
 }
 
 pub fn size2(u: Point) -> i64
     requires { ⌜ Small u ⌝ }
     ensures { λ r. ⌜ r ≡ size² u ⌝ }
 {
-    u.x * u.x + u.y * u.y
+    dot(u, u)
 }
 
 // What the checks before a walk come to.
@@ -145,13 +161,13 @@ pub fn check_lengths(line: Line, points: &[i32], table: &[i32]) -> Checked
         return Checked::Refused(early(1, line));
     }
     let count = points.len() / 2;
-    if count < 2 {
+    if count < FEWEST {
         return Checked::Refused(early(2, line));
     }
-    if 4097 < count {
+    if MOST < count {
         return Checked::Refused(early(3, line));
     }
-    if table.len() < 11 * (2 * (count - 1) - 1) {
+    if table.len() < WIDTH * (2 * (count - 1) - 1) {
         return Checked::Refused(early(6, line));
     }
     Checked::Fine

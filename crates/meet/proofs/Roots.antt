@@ -3,7 +3,6 @@ use mathlib.Core.Path.{_≡_, refl, sym, _∙_}
 use mathlib.Core.Bool.{true, cond, _||_}
 use mathlib.Core.List.{List}
 use Prim.Native.Nat.{ℕ, _<_}
-use lib.Dec.{T}
 use lib.IntN.{ℤ}
 use Rattle.rules.specs.declared.Next.{Next}
 use Rattle.rules.specs.declared.Next.the-variants.{Left, Spent}
@@ -12,12 +11,13 @@ use Rattle.rules.specs.declared.Tally.{Tally}
 use Rattle.rules.specs.Tree.{rowAt}
 use Rattle.rules.specs.Walk.{next, Visit, pass, over, onVisit, walk}
 use Rattle.rules.specs.Questions.{Nothing, startOf, headingOf, boxesApart, stripApart, apart, meetVisit}
+use Rattle.visits.specs.Nodes.{RowGood}
 use Rattle.visits.proofs.Levels.{none-left, visited}
-use Rattle.meet_visit.proofs.Steps.{goodA, goodB, keptVisit, both-good}
+use Rattle.meet_visit.proofs.Steps.{keptVisit, both-good}
 
 module _ (ps t qs t′ : List ℤ) (n : Pair) where
   -- boxes apart dismiss the pair, whatever the strips say
-  pub boxes-dismiss : T (goodA ps t qs t′ n) → T (goodB ps t qs t′ n)
+  pub boxes-dismiss : RowGood ps t (n .a) → RowGood qs t′ (n .b)
       → boxesApart (rowAt t (n .a .row)) (rowAt t′ (n .b .row)) ≡ true → pass (λ k. k) ≡ meetVisit ps t qs t′ n
   unfolding apart
   boxes-dismiss h k e =

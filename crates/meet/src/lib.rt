@@ -1,32 +1,34 @@
 // MEET: whether some segment of line A and some of line B share a point. `meet` takes any slices, and says what `rules`
 // says of them: the refusals of A, then of B, else the answer of the walk from both roots.
 use apart::strips::boxes_apart;
-use ends::answer;
-use ends::bad_row_due;
-use ends::bad_second_due;
+use ending::answer;
+use ending::bad_row_due;
+use ending::bad_second_due;
 use line::Checked;
 use line::check_lengths;
 use meet_walk::walk;
 use row::row_at;
 use row::row_good;
-use rules::Answer;
 use rules::Line;
 use rules::Next;
+use rules::Reply;
 use rules::Tally;
+use rules::Word;
+use rules::refuses;
+use rules::says;
 ghost use mathlib.Core.Path.{_≡_};
-ghost use Rattle.rules.specs.Reply.{answerReply};
 ghost use Rattle.rules.specs.Walk.{next, over, onVisit, fresh};
 ghost use Rattle.rules.specs.Questions.{yesOrNo, meetWalk, meetReply};
-ghost use Rattle.line.specs.Fine.{LengthsFine};
+ghost use Rattle.visits.specs.Fine.{LengthsFine};
 
 // The answer where the first visit dismisses the pair of the roots.
-fn at_once(tally: Tally) -> Answer
-    ensures { λ r. ⌜ answerReply r ≡ yesOrNo (tally .allowance) (onVisit (next tally) (λ y. over tt y)) ⌝ }
+fn at_once(tally: Tally) -> Reply
+    ensures { λ r. ⌜ r ≡ yesOrNo (tally .allowance) (onVisit (next tally) (λ y. over tt y)) ⌝ }
 {
     let Next::Left(counted) = tally.visit() else {
-        return Answer::Undecided(tally.allowance);
+        return says(Word::UNDECIDED, tally.allowance);
     };
-    Answer::No(counted.visits)
+    says(Word::NO, counted.visits)
 }
 
 // The answer of the walk from both roots, whose rows are checked first. Roots with their boxes apart, as most lines of
@@ -37,9 +39,9 @@ fn from_roots(
     points_b: &[i32],
     table_b: &[i32],
     allowance: u32,
-) -> Answer
+) -> Reply
     requires { ⌜ LengthsFine (now «points_a») (now «table_a») × LengthsFine (now «points_b») (now «table_b») ⌝ }
-    ensures { λ r. ⌜ answerReply r ≡ yesOrNo allowance
+    ensures { λ r. ⌜ r ≡ yesOrNo allowance
         (meetWalk (now («points_a» .entry)) (now («table_a» .entry))
         (now («points_b» .entry)) (now («table_b» .entry)) (fresh allowance)) ⌝ }
 {
@@ -85,16 +87,15 @@ pub fn meet(
     points_b: &[i32],
     table_b: &[i32],
     allowance: u32,
-) -> Answer
-    ensures { λ r. ⌜ answerReply r
-        ≡ meetReply (now («points_a» .entry)) (now («table_a» .entry))
+) -> Reply
+    ensures { λ r. ⌜ r ≡ meetReply (now («points_a» .entry)) (now («table_a» .entry))
         (now («points_b» .entry)) (now («table_b» .entry)) allowance ⌝ }
 {
     if let Checked::Refused(refusal) = check_lengths(Line::LineA, points_a, table_a) {
-        return Answer::Refused(refusal);
+        return refuses(refusal);
     }
     if let Checked::Refused(refusal) = check_lengths(Line::LineB, points_b, table_b) {
-        return Answer::Refused(refusal);
+        return refuses(refusal);
     }
     from_roots(points_a, table_a, points_b, table_b, allowance)
 }

@@ -1,9 +1,7 @@
 -- Demand 2 for MEET: the exact test means a shared point, no dismissal loses one, and so the walk tells the truth.
-pub mod Corners
 pub mod Parted
 pub mod Test
 pub mod Share
 pub mod Dismissed
-pub mod Pairs
 pub mod Plain
 pub mod Truth

@@ -1,105 +1,109 @@
--- The exact test of two segments is right: it says yes exactly where one rational point lies on both. From a shared point each
--- part of the test follows, as nothing affine parts the segments. From the test, either the lines cross, and the point is
--- weighed by c of the ends; or all four ends stand on one line, and an end of one segment lies on the other.
-use mathlib.Core.Path.{_≡_, sym, _∙_, ap, subst₂}
-use mathlib.Core.List.{[], _∷_}
+-- The exact test of two segments is right: it says yes exactly where one rational point lies on both. From a shared
+-- point each part of the test follows, as nothing affine parts the segments. From the test, either the lines cross,
+-- and the point is weighed by c of the ends; or all four ends stand on one line, and an end of one segment lies on
+-- the other.
+use mathlib.Core.Path.{_≡_, sym, _∙_, ap}
+use mathlib.Core.List.{List, [], _∷_}
 use mathlib.Core.Logic.{_⊎_, inl, inr, ⊎-elim, _↔_}
 use lib.Dec.{T}
-use lib.IntN.{ℤ, pos, negsuc, negℤ, _+ℤ_, _-ℤ_, _*ℤ_}
-use lib.Signed.{_≤ℤ_, _<ℤ_, leZ-yes, ltZ-yes, ≤ℤ-refl, <ℤ-≤ℤ-trans}
-use Rattle.whole.specs.Poly.{con, _:+_, _:*_, _:-_, :neg}
-use Rattle.whole.specs.Check.{_:≤_, _:<_, _:=_, hyp, mul, _⊞_, ring, prove}
-use Rattle.whole.specs.Order.{≤ℤ-or-<ℤ, ≤-<ℤ-trans, ≤ℤ-antisym, <ℤ-weaken, ≡→≤ℤ}
+use lib.IntN.{ℤ, pos, negsuc, negℤ, _-ℤ_, _*ℤ_}
+use lib.Signed.{ltZ, _≤ℤ_, _<ℤ_, ≤ℤ-refl, clashℤ}
+use Rattle.integers.specs.Poly.{Expr, con, _:-_, :neg}
+use Rattle.integers.specs.Check.{Stmt, _:<_, _:=_, hyp, mul, _⊞_, prove}
+use Rattle.integers.specs.Laws.{cond-ind}
+use Rattle.integers.specs.Order.{≤ℤ-or-<ℤ, ≤ℤ-trans, ≤-<ℤ-trans, ≤ℤ-antisym, <ℤ-weaken, ≡→≤ℤ}
+use Rattle.integers.specs.Order.{minZ, maxZ, min-l, min-r, min-greatest, max-l, max-r, max-least}
 use Rattle.rules.specs.declared.Point.{Point}
-use Rattle.rules.specs.Plane.{step, cAt}
+use Rattle.rules.specs.Plane.{step}
 use Rattle.rules.specs.Plain.{share}
+use Rattle.visits.specs.Weights.{total, mixed}
+use Rattle.visits.proofs.Tests.{≤ℤ-unless}
 use Rattle.visits.proofs.Terms.{c-start}
+use Rattle.visits.proofs.Points.{PointE, stepE, cAtE, ring-of, prove-of, one-point}
+use Rattle.visits.proofs.Weights.{at-start, reversed, between}
 use Rattle.visits.proofs.Affine.{Affine, x-affine, y-affine, c-affine}
 use Rattle.meet_truth.specs.Meeting.{Meeting}
-use Rattle.meet_truth.proofs.Parted.{parted-below, parted-above, meeting-swaps, meeting-turns}
-use Rattle.meet_truth.proofs.Test.{Reaches, Overlap, overlap-turns, Neither, flip, across, zeros, Passed, passed-read, passed-make, passed-turns, cOf, c-turns}
+use Rattle.meet_truth.proofs.Parted.{sameE, affineE, parted-below, parted-above}
+use Rattle.meet_truth.proofs.Parted.{meeting-swaps, meeting-reversed}
+use Rattle.meet_truth.proofs.Test.{Overlap, Neither, neither-swaps, across, zeros, cOf, c-reversed}
+use Rattle.meet_truth.proofs.Test.{Passed, passed-read, passed-make}
+
+-- c of the segment a to b at p, as a term
+abbrev cOfE : PointE → PointE → PointE → Expr
+cOfE a b p = cAtE a (stepE a b) p
 
 -- ---------------- a shared point passes the test
 
 module _ {a b c d : Point} (m : Meeting a b c d) where
   -- what an affine f counts of the one reaches to what it counts of the other
-  reached : {f : Point → ℤ} → Affine f → Reaches (f a) (f b) (f c) (f d)
-  reached h v w p q r s =
-      ⊎-elim (λ l. l) (λ l. absurd (parted-below h m v p q (≤-<ℤ-trans r l) (≤-<ℤ-trans s l))) (≤ℤ-or-<ℤ v w)
+  reached : {f : Point → ℤ} → Affine f → minZ (f a) (f b) ≤ℤ maxZ (f c) (f d)
+  reached {f} h =
+      ≤ℤ-unless (λ l. parted-below h m (minZ (f a) (f b)) (min-l (f a) (f b)) (min-r (f a) (f b))
+      (≤-<ℤ-trans (max-l (f c) (f d)) l) (≤-<ℤ-trans (max-r (f c) (f d)) l))
 
   -- c of a to b is 0 at a and at b, so it parts nothing
-  neither : Neither (cAt a (step a b) c) (cAt a (step a b) d)
-  neither = (
-    λ k l. parted-above (c-affine a (step a b)) m (pos 0) (≡→≤ℤ (c-start a (step a b))) (≡→≤ℤ at-end) k l,
-    λ k l. parted-below (c-affine a (step a b)) m (pos 0) (≡→≤ℤ (sym (c-start a (step a b)))) (≡→≤ℤ (sym at-end)) k l,
-  )
-    where
-      at-end : cAt a (step a b) b ≡ pos 0
-      at-end = ring 4 (λ ax ay bx by. cOf ax ay bx by bx by := con (pos 0)) tt (a .x) (a .y) (b .x) (b .y)
+  neither : Neither (cOf a b c) (cOf a b d)
+  neither =
+      let u = step a b in
+      let c-end = ring-of 2 0 (λ a b. cOfE a b b := con (pos 0)) tt a b in (
+        parted-above (c-affine a u) m (pos 0) (≡→≤ℤ (c-start a u)) (≡→≤ℤ c-end),
+        parted-below (c-affine a u) m (pos 0) (≡→≤ℤ (sym (c-start a u))) (≡→≤ℤ (sym c-end)),
+      )
 
 -- whoever meets passes the test
 meeting-passes : {a b c d : Point} → Meeting a b c d → Passed a b c d
 meeting-passes m = let m′ = meeting-swaps m in record {
-  xs = (reached m x-affine, reached m′ x-affine);
-  ys = (reached m y-affine, reached m′ y-affine);
+  xs = record { up = reached m x-affine; down = reached m′ x-affine };
+  ys = record { up = reached m y-affine; down = reached m′ y-affine };
   of-ab = neither m;
   of-cd = neither m′;
 }
 
 -- ---------------- the lines cross
 
--- c(c) − c(d) of a to b is c(b) − c(a) of c to d
-turn : (a b c d : Point) → cAt a (step a b) c -ℤ cAt a (step a b) d ≡ cAt c (step c d) b -ℤ cAt c (step c d) a
-turn a b c d =
-    ring 8 (λ ax ay bx by cx cy dx dy. cOf ax ay bx by cx cy :- cOf ax ay bx by dx dy := cOf cx cy dx dy bx by :- cOf cx cy dx dy ax ay) tt
-    (a .x) (a .y) (b .x) (b .y) (c .x) (c .y) (d .x) (d .y)
+-- c(d) − c(c) of a to b is c(a) − c(b) of c to d
+same-fall : (a b c d : Point) → cOf a b d -ℤ cOf a b c ≡ cOf c d a -ℤ cOf c d b
+same-fall = ring-of 4 0 (λ a b c d. cOfE a b d :- cOfE a b c := cOfE c d a :- cOfE c d b) tt
+
+-- so the one is below 0, above 0 or 0 where the other is
+falls : (u v w z : ℤ) → u -ℤ v ≡ w -ℤ z → u <ℤ v → w <ℤ z
+falls = prove 4 (λ u v w z. ((u :- v := w :- z) ∷ (u :< v) ∷ [], w :< z, mul (con (negsuc 0)) 0 ⊞ hyp 1)) tt
+
+climbs : (u v w z : ℤ) → u -ℤ v ≡ w -ℤ z → v <ℤ u → z <ℤ w
+climbs = prove 4 (λ u v w z. ((u :- v := w :- z) ∷ (v :< u) ∷ [], z :< w, hyp 0 ⊞ hyp 1)) tt
+
+stays : (u v w z : ℤ) → u -ℤ v ≡ w -ℤ z → v ≡ u → w ≡ z
+stays =
+    prove 4 (λ u v w z. (
+      (u :- v := w :- z) ∷ (v := u) ∷ [],
+      w := z,
+      mul (con (negsuc 0)) 0 ⊞ mul (con (negsuc 0)) 1,
+    )) tt
 
 -- where c falls from c to d, each end is weighed by c at the other end of its segment
-crossed : (a b c d : Point) → Passed a b c d → cAt a (step a b) d <ℤ cAt a (step a b) c → Meeting a b c d
-crossed a b c d h l = record {
-  p = cB;
-  q = negℤ cA;
-  r = negℤ cD;
-  s = cC;
-  p≥0 = of-cd .1;
-  q≥0 = minus cA (of-cd .0);
-  r≥0 = minus cD (of-ab .0);
-  s≥0 = of-ab .1;
-  p+q>0 = prove 2 (λ u v. ((u :< v) ∷ [], con (pos 0) :< v :+ :neg u, hyp 0)) tt cA cB m;
-  r+s>0 = prove 2 (λ u v. ((u :< v) ∷ [], con (pos 0) :< :neg u :+ v, hyp 0)) tt cD cC l;
-  same-x = ring 8 (λ ax ay bx by cx cy dx dy.
-      (:neg (cOf ax ay bx by dx dy) :+ cOf ax ay bx by cx cy) :* (cOf cx cy dx dy bx by :* ax :+ :neg (cOf cx cy dx dy ax ay) :* bx)
-      := (cOf cx cy dx dy bx by :+ :neg (cOf cx cy dx dy ax ay)) :* (:neg (cOf ax ay bx by dx dy) :* cx :+ cOf ax ay bx by cx cy :* dx)) tt
-      (a .x) (a .y) (b .x) (b .y) (c .x) (c .y) (d .x) (d .y);
-  same-y = ring 8 (λ ax ay bx by cx cy dx dy.
-      (:neg (cOf ax ay bx by dx dy) :+ cOf ax ay bx by cx cy) :* (cOf cx cy dx dy bx by :* ay :+ :neg (cOf cx cy dx dy ax ay) :* by)
-      := (cOf cx cy dx dy bx by :+ :neg (cOf cx cy dx dy ax ay)) :* (:neg (cOf ax ay bx by dx dy) :* cy :+ cOf ax ay bx by cx cy :* dy)) tt
-      (a .x) (a .y) (b .x) (b .y) (c .x) (c .y) (d .x) (d .y);
+crossed : (a b c d : Point) → Neither (cOf a b c) (cOf a b d) → Neither (cOf c d a) (cOf c d b)
+    → cOf a b d <ℤ cOf a b c → Meeting a b c d
+crossed a b c d ab cd l = record {
+  on-ab = between (cOf c d a) (pos 0) (cOf c d b) (of-cd .0) (of-cd .1) rises;
+  on-cd = reversed (between (cOf a b d) (pos 0) (cOf a b c) (of-ab .0) (of-ab .1) l);
+  same =
+      one-point (ring-of 4 0 (λ a b c d. crossE a b c d (a .x) (b .x) (c .x) (d .x)) tt a b c d)
+      (ring-of 4 0 (λ a b c d. crossE a b c d (a .y) (b .y) (c .y) (d .y)) tt a b c d);
 }
   where
-    cA : ℤ
-    cA = cAt c (step c d) a
+    crossE : PointE → PointE → PointE → PointE → Expr → Expr → Expr → Expr → Stmt
+    crossE a b c d =
+        sameE (cOfE c d b :- con (pos 0)) (con (pos 0) :- cOfE c d a)
+        (con (pos 0) :- cOfE a b d) (cOfE a b c :- con (pos 0))
 
-    cB : ℤ
-    cB = cAt c (step c d) b
+    rises : cOf c d a <ℤ cOf c d b
+    rises = falls (cOf a b d) (cOf a b c) (cOf c d a) (cOf c d b) (same-fall a b c d) l
 
-    cC : ℤ
-    cC = cAt a (step a b) c
+    of-ab : (cOf a b d ≤ℤ pos 0) × (pos 0 ≤ℤ cOf a b c)
+    of-ab = across ab (<ℤ-weaken l)
 
-    cD : ℤ
-    cD = cAt a (step a b) d
-
-    m : cA <ℤ cB
-    m = prove 4 (λ a b c d. ((d :< c) ∷ (c :- d := b :- a) ∷ [], a :< b, hyp 0 ⊞ mul (con (pos 1)) 1)) tt cA cB cC cD l (turn a b c d)
-
-    of-ab : (cD ≤ℤ pos 0) × (pos 0 ≤ℤ cC)
-    of-ab = across (h .of-ab) (<ℤ-weaken l)
-
-    of-cd : (cA ≤ℤ pos 0) × (pos 0 ≤ℤ cB)
-    of-cd = across (flip (h .of-cd)) (<ℤ-weaken m)
-
-    minus : (u : ℤ) → u ≤ℤ pos 0 → pos 0 ≤ℤ negℤ u
-    minus = prove 1 (λ u. ((u :≤ con (pos 0)) ∷ [], con (pos 0) :≤ :neg u, hyp 0)) tt
+    of-cd : (cOf c d a ≤ℤ pos 0) × (pos 0 ≤ℤ cOf c d b)
+    of-cd = across (neither-swaps cd) (<ℤ-weaken rises)
 
 -- ---------------- all on one line
 
@@ -107,148 +111,120 @@ abbrev Order : ℤ → ℤ → Type 0
 Order a b = (a <ℤ b) ⊎ ((b <ℤ a) ⊎ (a ≡ b))
 
 order : (a b : ℤ) → Order a b
-order a b = ⊎-elim (λ l. ⊎-elim (λ m. inr (inr (≤ℤ-antisym l m))) inl (≤ℤ-or-<ℤ b a)) (λ l. inr (inl l)) (≤ℤ-or-<ℤ a b)
+order a b =
+    ⊎-elim (λ l. ⊎-elim (λ m. inr (inr (≤ℤ-antisym l m))) inl (≤ℤ-or-<ℤ b a)) (λ l. inr (inl l)) (≤ℤ-or-<ℤ a b)
 
 -- each end stands on the line of the other segment
 record Level (a b c d : Point) : Type 0 where
-  a-on : cAt c (step c d) a ≡ pos 0
-  b-on : cAt c (step c d) b ≡ pos 0
-  c-on : cAt a (step a b) c ≡ pos 0
-  d-on : cAt a (step a b) d ≡ pos 0
+  a-on : cOf c d a ≡ pos 0
+  b-on : cOf c d b ≡ pos 0
+  c-on : cOf a b c ≡ pos 0
+  d-on : cOf a b d ≡ pos 0
 
-level-swaps : {a b c d : Point} → Level a b c d → Level c d a b
-level-swaps l = record { a-on = l .c-on; b-on = l .d-on; c-on = l .a-on; d-on = l .b-on }
-
-level-turns : {a b c d : Point} → Level a b c d → Level b a c d
-level-turns {a} {b} {c} {d} l = record { a-on = l .b-on; b-on = l .a-on; c-on = c-turns a b c ∙ ap negℤ (l .c-on); d-on = c-turns a b d ∙ ap negℤ (l .d-on) }
-
--- an end of the one on the line of the other, and between its ends as f counts
-between : {f : Point → ℤ} → Affine f → (a b c d : Point) → cAt c (step c d) a ≡ pos 0 → f c ≤ℤ f a → f a ≤ℤ f d → f c <ℤ f d → Meeting a b c d
-between {f} h a b c d e l m n = record {
-  p = pos 1;
-  q = pos 0;
-  r = f d -ℤ f a;
-  s = f a -ℤ f c;
-  p≥0 = leZ-yes tt;
-  q≥0 = leZ-yes tt;
-  r≥0 = difference (f a) (f d) m;
-  s≥0 = difference (f c) (f a) l;
-  p+q>0 = ltZ-yes tt;
-  r+s>0 = prove 3 (λ u v w. ((u :< w) ∷ [], con (pos 0) :< w :- v :+ (v :- u), hyp 0)) tt (f c) (f a) (f d) n;
-  same-x =
-      prove 13 (λ α β γ ax ay bx cx cy dx dy fa fc fd. (
-        (cOf cx cy dx dy ax ay := con (pos 0)) ∷ (fa := α :* ax :+ β :* ay :+ γ) ∷ (fc := α :* cx :+ β :* cy :+ γ) ∷ (fd := α :* dx :+ β :* dy :+ γ) ∷ [],
-        (fd :- fa :+ (fa :- fc)) :* (con (pos 1) :* ax :+ con (pos 0) :* bx) := (con (pos 1) :+ con (pos 0)) :* ((fd :- fa) :* cx :+ (fa :- fc) :* dx),
-        mul (:neg β) 0 ⊞ mul (cx :- dx) 1 ⊞ mul (dx :- ax) 2 ⊞ mul (ax :- cx) 3,
-      )) tt (h .α) (h .β) (h .γ) (a .x) (a .y) (b .x) (c .x) (c .y) (d .x) (d .y) (f a) (f c) (f d) e (h .is a) (h .is c) (h .is d);
-  same-y =
-      prove 13 (λ α β γ ax ay by cx cy dx dy fa fc fd. (
-        (cOf cx cy dx dy ax ay := con (pos 0)) ∷ (fa := α :* ax :+ β :* ay :+ γ) ∷ (fc := α :* cx :+ β :* cy :+ γ) ∷ (fd := α :* dx :+ β :* dy :+ γ) ∷ [],
-        (fd :- fa :+ (fa :- fc)) :* (con (pos 1) :* ay :+ con (pos 0) :* by) := (con (pos 1) :+ con (pos 0)) :* ((fd :- fa) :* cy :+ (fa :- fc) :* dy),
-        mul α 0 ⊞ mul (cy :- dy) 1 ⊞ mul (dy :- ay) 2 ⊞ mul (ay :- cy) 3,
-      )) tt (h .α) (h .β) (h .γ) (a .x) (a .y) (b .y) (c .x) (c .y) (d .x) (d .y) (f a) (f c) (f d) e (h .is a) (h .is c) (h .is d);
-}
-  where
-    difference : (u v : ℤ) → u ≤ℤ v → pos 0 ≤ℤ (v -ℤ u)
-    difference = prove 2 (λ u v. ((u :≤ v) ∷ [], con (pos 0) :≤ v :- u, hyp 0)) tt
+-- of one number, the lesser and the greater are it
+one-number : {u v : ℤ} → u ≡ v → (u ≤ℤ minZ u v) × (maxZ u v ≤ℤ u)
+one-number {u} e = (min-greatest (≤ℤ-refl u) (≡→≤ℤ e), max-least (≤ℤ-refl u) (≡→≤ℤ (sym e)))
 
 module _ {f : Point → ℤ} (h : Affine f) where
-  abbrev Ranges : Point → Point → Point → Point → Type 0
-  Ranges a b c d = Overlap (f a) (f b) (f c) (f d)
-
-  -- f grows from a to b and does not fall from c to d: the greater of the lower ends lies on the other segment
-  ordered : (a b c d : Point) → Level a b c d → Ranges a b c d → f a <ℤ f b → f c ≤ℤ f d → Meeting a b c d
-  ordered a b c d l o m n =
-      ⊎-elim (λ k. meeting-swaps (between h c d a b (l .c-on) k cb m)) (λ k. between h a b c d (l .a-on) (<ℤ-weaken k) ad (<ℤ-≤ℤ-trans k ad)) (≤ℤ-or-<ℤ (f a) (f c))
+  -- an end of the one on the line of the other, and between its ends as f counts
+  end-on : (a b c d : Point) → cOf c d a ≡ pos 0 → f c ≤ℤ f a → f a ≤ℤ f d → f c <ℤ f d → Meeting a b c d
+  end-on a b c d e l m n = record {
+    on-ab = at-start;
+    on-cd = between (f c) (f a) (f d) l m n;
+    same =
+        one-point
+        (prove-of 4 6 (λ a b c d α β γ fa fc fd. (
+          onE a c d α β γ fa fc fd,
+          sameE (con (pos 1)) (con (pos 0)) (fd :- fa) (fa :- fc) (a .x) (b .x) (c .x) (d .x),
+          mul (:neg β) 0 ⊞ mul (c .x :- d .x) 1 ⊞ mul (d .x :- a .x) 2 ⊞ mul (a .x :- c .x) 3,
+        )) tt a b c d (h .α) (h .β) (h .γ) (f a) (f c) (f d) e (h .is a) (h .is c) (h .is d))
+        (prove-of 4 6 (λ a b c d α β γ fa fc fd. (
+          onE a c d α β γ fa fc fd,
+          sameE (con (pos 1)) (con (pos 0)) (fd :- fa) (fa :- fc) (a .y) (b .y) (c .y) (d .y),
+          mul α 0 ⊞ mul (c .y :- d .y) 1 ⊞ mul (d .y :- a .y) 2 ⊞ mul (a .y :- c .y) 3,
+        )) tt a b c d (h .α) (h .β) (h .γ) (f a) (f c) (f d) e (h .is a) (h .is c) (h .is d));
+  }
     where
-      ad : f a ≤ℤ f d
-      ad = o .0 (f a) (f d) (≤ℤ-refl (f a)) (<ℤ-weaken m) n (≤ℤ-refl (f d))
+      onE : PointE → PointE → PointE → Expr → Expr → Expr → Expr → Expr → Expr → List Stmt
+      onE a c d α β γ fa fc fd =
+          (cOfE c d a := con (pos 0)) ∷ affineE α β γ a fa ∷ affineE α β γ c fc ∷ affineE α β γ d fd ∷ []
 
-      cb : f c ≤ℤ f b
-      cb = o .1 (f c) (f b) (≤ℤ-refl (f c)) n (<ℤ-weaken m) (≤ℤ-refl (f b))
+  -- either way round, or f does not move along the other
+  onto : (a b c d : Point) → cOf c d a ≡ pos 0 → minZ (f c) (f d) ≤ℤ f a → f a ≤ℤ maxZ (f c) (f d)
+      → Meeting a b c d ⊎ (f c ≡ f d)
+  onto a b c d e p q =
+      ⊎-elim (λ l. let k = <ℤ-weaken l in inl (end-on a b c d e
+      (≤ℤ-trans (min-greatest (≤ℤ-refl (f c)) k) p) (≤ℤ-trans q (max-least k (≤ℤ-refl (f d)))) l))
+      (⊎-elim (λ l. let k = <ℤ-weaken l in inl (meeting-swaps (meeting-reversed (meeting-swaps (end-on a b d c
+      (c-reversed c d a ∙ ap negℤ e) (≤ℤ-trans (min-greatest k (≤ℤ-refl (f d))) p)
+      (≤ℤ-trans q (max-least (≤ℤ-refl (f c)) k)) l))))) inr) (order (f c) (f d))
 
-  -- f grows from a to b: c and d stand either way round
-  grows : (a b c d : Point) → Level a b c d → Ranges a b c d → f a <ℤ f b → Meeting a b c d
-  grows a b c d l o m =
-      ⊎-elim (ordered a b c d l o m)
-      (λ n. let o′ : Ranges d c a b = overlap-turns (o .1, o .0) in
-      meeting-swaps (meeting-turns (meeting-swaps (ordered a b d c (level-swaps (level-turns (level-swaps l))) (o′ .1, o′ .0) m (<ℤ-weaken n)))))
-      (≤ℤ-or-<ℤ (f c) (f d))
+  -- whichever end of a to b is the lower
+  lower-on : (a b c d : Point) → cOf c d a ≡ pos 0 → cOf c d b ≡ pos 0 → minZ (f c) (f d) ≤ℤ minZ (f a) (f b)
+      → minZ (f a) (f b) ≤ℤ maxZ (f c) (f d) → Meeting a b c d ⊎ (f c ≡ f d)
+  lower-on a b c d ea eb =
+      cond-ind (ltZ (f a) (f b)) (f a) (f b)
+      (λ v. minZ (f c) (f d) ≤ℤ v → v ≤ℤ maxZ (f c) (f d) → Meeting a b c d ⊎ (f c ≡ f d))
+      (λ _. onto a b c d ea) (λ _ p q. ⊎-elim (λ m. inl (meeting-reversed m)) inr (onto b a c d eb p q))
 
-  -- f moves along a to b, or it does not
-  moves : (a b c d : Point) → Level a b c d → Ranges a b c d → Meeting a b c d ⊎ (f a ≡ f b)
+  -- the greater of the lower ends lies on the other segment, or f has one value at the starts of both
+  moves : (a b c d : Point) → Level a b c d → Overlap (f a) (f b) (f c) (f d) → Meeting a b c d ⊎ (f a ≡ f c)
   moves a b c d l o =
-      ⊎-elim (λ m. inl (grows a b c d l o m))
-      (⊎-elim (λ m. inl (meeting-turns (grows b a c d (level-turns l) (overlap-turns o) m))) inr) (order (f a) (f b))
+      ⊎-elim (λ k. ⊎-elim inl (λ cd. c-alone (one-number cd) k) (lower-on a b c d (l .a-on) (l .b-on) k (o .up)))
+      (λ k. ⊎-elim (λ m. inl (meeting-swaps m)) (λ ab. absurd (clashℤ k (a-alone (one-number ab))))
+      (lower-on c d a b (l .c-on) (l .d-on) (<ℤ-weaken k) (o .down))) (≤ℤ-or-<ℤ (minZ (f c) (f d)) (minZ (f a) (f b)))
+    where
+      -- f does not move along a to b
+      a-alone : (f a ≤ℤ minZ (f a) (f b)) × (maxZ (f a) (f b) ≤ℤ f a) → minZ (f c) (f d) ≤ℤ minZ (f a) (f b)
+      a-alone u = ≤ℤ-trans (o .down) (≤ℤ-trans (u .1) (u .0))
 
--- where nothing moves, ranges that overlap are one number
-standing : {a b c d : ℤ} → Overlap a b c d → a ≡ b → c ≡ d → a ≡ c
-standing {a} {b} {c} {d} o e f =
-    ≤ℤ-antisym (o .0 a c (≤ℤ-refl a) (≡→≤ℤ e) (≤ℤ-refl c) (≡→≤ℤ (sym f))) (o .1 c a (≤ℤ-refl c) (≡→≤ℤ f) (≤ℤ-refl a) (≡→≤ℤ (sym e)))
+      -- f does not move along c to d: then c lies on a to b
+      c-alone : (f c ≤ℤ minZ (f c) (f d)) × (maxZ (f c) (f d) ≤ℤ f c) → minZ (f c) (f d) ≤ℤ minZ (f a) (f b)
+          → Meeting a b c d ⊎ (f a ≡ f c)
+      c-alone u k =
+          let low = ≤ℤ-trans (o .up) (u .1) in
+          ⊎-elim (λ m. inl (meeting-swaps m)) (λ ab. inr (≤ℤ-antisym (≤ℤ-trans (one-number ab .0) low)
+          (≤ℤ-trans (u .0) (≤ℤ-trans k (min-l (f a) (f b)))))) (onto c d a b (l .c-on) low (≤ℤ-trans (u .0) (o .down)))
 
 -- segments that start at one point
 starts-met : (a b c d : Point) → a .x ≡ c .x → a .y ≡ c .y → Meeting a b c d
 starts-met a b c d ex ey = record {
-  p = pos 1;
-  q = pos 0;
-  r = pos 1;
-  s = pos 0;
-  p≥0 = leZ-yes tt;
-  q≥0 = leZ-yes tt;
-  r≥0 = leZ-yes tt;
-  s≥0 = leZ-yes tt;
-  p+q>0 = ltZ-yes tt;
-  r+s>0 = ltZ-yes tt;
-  same-x = weighed (a .x) (b .x) (c .x) (d .x) ex;
-  same-y = weighed (a .y) (b .y) (c .y) (d .y) ey;
+  on-ab = at-start;
+  on-cd = at-start;
+  same = one-point (alone (a .x) (b .x) (c .x) (d .x) ex) (alone (a .y) (b .y) (c .y) (d .y) ey);
 }
   where
-    weighed : (a b c d : ℤ) → a ≡ c → pos 1 *ℤ (pos 1 *ℤ a +ℤ pos 0 *ℤ b) ≡ pos 1 *ℤ (pos 1 *ℤ c +ℤ pos 0 *ℤ d)
-    weighed =
+    alone : (a b c d : ℤ) → a ≡ c → total at-start *ℤ mixed at-start a b ≡ total at-start *ℤ mixed at-start c d
+    alone =
         prove 4 (λ a b c d. (
           (a := c) ∷ [],
-          con (pos 1) :* (con (pos 1) :* a :+ con (pos 0) :* b) := con (pos 1) :* (con (pos 1) :* c :+ con (pos 0) :* d),
-          mul (con (pos 1)) 0,
+          sameE (con (pos 1)) (con (pos 0)) (con (pos 1)) (con (pos 0)) a b c d,
+          hyp 0,
         )) tt
 
 -- x moves along one of the two, or y does, or each is a point
-lined : (a b c d : Point) → Level a b c d → Ranges x-affine a b c d → Ranges y-affine a b c d → Meeting a b c d
-lined a b c d l xs ys =
-    ⊎-elim (λ m. m) (λ ab. ⊎-elim meeting-swaps (λ cd.
-    ⊎-elim (λ m. m) (λ ab′. ⊎-elim meeting-swaps (λ cd′.
-    starts-met a b c d (standing xs ab cd) (standing ys ab′ cd′))
-    (moves y-affine c d a b l′ (ys .1, ys .0))) (moves y-affine a b c d l ys))
-    (moves x-affine c d a b l′ (xs .1, xs .0))) (moves x-affine a b c d l xs)
-  where
-    l′ : Level c d a b
-    l′ = level-swaps l
+lined : (a b c d : Point) → Level a b c d → Passed a b c d → Meeting a b c d
+lined a b c d l s =
+    ⊎-elim (λ m. m) (λ ex. ⊎-elim (λ m. m) (starts-met a b c d ex) (moves y-affine a b c d l (s .ys)))
+    (moves x-affine a b c d l (s .xs))
 
 -- ---------------- the test passed tells of a shared point
 
 -- whoever passes the test meets: c falls from c to d, or rises, or all ends stand on one line
 passed-meeting : (a b c d : Point) → Passed a b c d → Meeting a b c d
 passed-meeting a b c d s =
-    ⊎-elim (λ l. meeting-turns (crossed b a c d (passed-turns s) (falls l)))
-    (⊎-elim (crossed a b c d s) (λ e. lined a b c d (level e) (s .xs) (s .ys))) (order cC cD)
-  where
-    cC : ℤ
-    cC = cAt a (step a b) c
-
-    cD : ℤ
-    cD = cAt a (step a b) d
-
-    falls : cC <ℤ cD → cAt b (step b a) d <ℤ cAt b (step b a) c
-    falls l = subst₂ _<ℤ_ (sym (c-turns a b d)) (sym (c-turns a b c)) (prove 2 (λ u v. ((u :< v) ∷ [], :neg v :< :neg u, hyp 0)) tt cC cD l)
-
-    same : (u v w z : ℤ) → u -ℤ v ≡ w -ℤ z → u ≡ v → z ≡ w
-    same = prove 4 (λ u v w z. ((u :- v := w :- z) ∷ (u := v) ∷ [], z := w, mul (con (pos 1)) 0 ⊞ mul (con (negsuc 0)) 1)) tt
-
-    level : cC ≡ cD → Level a b c d
-    level e =
-        let z = zeros (s .of-ab) e in
-        let w = zeros (s .of-cd) (same cC cD (cAt c (step c d) b) (cAt c (step c d) a) (turn a b c d) e) in
-        record { a-on = w .0; b-on = w .1; c-on = z .0; d-on = z .1 }
+    let cC = cOf a b c in
+    let cD = cOf a b d in
+    let cA = cOf c d a in
+    let cB = cOf c d b in
+    let e = same-fall a b c d in
+    ⊎-elim (λ l. meeting-swaps (crossed c d a b (s .of-cd) (s .of-ab) (climbs cD cC cA cB e l)))
+    (⊎-elim (crossed a b c d (s .of-ab) (s .of-cd)) (λ same.
+    let z = zeros (s .of-ab) same in
+    let w = zeros (s .of-cd) (stays cD cC cA cB e same) in
+    lined a b c d (record { a-on = w .0; b-on = w .1; c-on = z .0; d-on = z .1 }) s)) (order cC cD)
 
 -- THE TEST: two segments pass it exactly when one rational point lies on both. A segment may have equal ends.
 pub share-meeting : (a b c d : Point) → T (share a b c d) ↔ Meeting a b c d
-share-meeting a b c d = (λ t. passed-meeting a b c d (passed-read a b c d t), λ m. passed-make a b c d (meeting-passes m))
+share-meeting a b c d =
+    (λ t. passed-meeting a b c d (passed-read a b c d t), λ m. passed-make a b c d (meeting-passes m))

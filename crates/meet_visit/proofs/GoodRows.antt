@@ -1,25 +1,49 @@
 -- What a good row that was read gives: points, a heading and a box for exact arithmetic, and an inner split.
+use mathlib.Core.Path.{_≡_, sym, _∙_, subst, subst₂}
 use mathlib.Core.List.{List}
 use Prim.Native.Nat.{_+_, _<_}
+use lib.Dec.{T}
 use lib.IntN.{ℤ}
 use Rattle.rules.specs.declared.Node.{Node}
+use Rattle.rules.specs.declared.Point.{Point}
 use Rattle.rules.specs.declared.Row.{Row}
+use Rattle.rules.specs.Plane.{direction}
+use Rattle.rules.specs.Tree.{rowAt}
+use Rattle.rules.specs.Rows.{good}
 use Rattle.rules.specs.Questions.{splitIn, startOf, endOf, headingOf}
+use Rattle.visits.specs.Nodes.{Inner}
 use Rattle.visits.proofs.Nodes.{GoodRow, good-read}
-use Rattle.visits.specs.Small.{OnSheet}
+use Rattle.limits.specs.Small.{OnSheet}
 use Rattle.apart.specs.Placed.{Placed}
-use Rattle.meet_visit.specs.Pairs.{HasSplit, Read}
-use Rattle.visits.proofs.OnSheets.{between-abs, on-sheet}
-use Rattle.visits.proofs.Sizes.{direction-small}
+use Rattle.meet_visit.specs.Pairs.{NodeStands, HasSplit, Read}
+use Rattle.limits.proofs.OnSheets.{between-abs, on-sheet}
+use Rattle.limits.proofs.Sizes.{direction-small}
+
+-- the row of a node that stands, when it is read
+pub read-of : {ps t : List ℤ} {r : Row} {n : Node} → NodeStands ps t n → r ≡ rowAt t (n .row) → Read ps r n
+read-of {ps} {t} {n} h e = record {
+  table = t;
+  stands = h .stands;
+  row-good = subst (λ (r : Row). T (good ps r (n .first) (n .last))) (sym e) (h .row-good);
+}
+
+-- the points that a node begins and ends with, when they are read
+pub record EndsRead (ps : List ℤ) (n : Node) (start end : Point) : Type 0 where
+  pub starts : start ≡ startOf ps n
+  pub ends : end ≡ endOf ps n
+
+pub heading-read : {ps : List ℤ} {n : Node} {start end u : Point} → EndsRead ps n start end → u ≡ direction start end
+    → u ≡ headingOf ps n
+heading-read e h = h ∙ (λ i. direction (e .starts i) (e .ends i))
 
 module _ {ps : List ℤ} {r : Row} {n : Node} (d : Read ps r n) where
   told : GoodRow ps r (n .first) (n .last)
   told = good-read ps r (n .first) (n .last) (d .row-good)
 
-  pub start-on : OnSheet (startOf ps n)
+  start-on : OnSheet (startOf ps n)
   start-on = on-sheet (startOf ps n) (told .start-on)
 
-  pub end-on : OnSheet (endOf ps n)
+  end-on : OnSheet (endOf ps n)
   end-on = on-sheet (endOf ps n) (told .end-on)
 
   pub placed : Placed r (startOf ps n) (headingOf ps n)
@@ -34,10 +58,17 @@ module _ {ps : List ℤ} {r : Row} {n : Node} (d : Read ps r n) where
     };
   }
 
+  -- so for the points and the heading that were read
+  pub ends-on : {start end : Point} → EndsRead ps n start end → OnSheet start × OnSheet end
+  ends-on e = (subst OnSheet (sym (e .starts)) start-on, subst OnSheet (sym (e .ends)) end-on)
+
+  pub placed-at : {start end u : Point} → EndsRead ps n start end → u ≡ direction start end → Placed r start u
+  placed-at e h = subst₂ (Placed r) (sym (e .starts)) (sym (heading-read e h)) placed
+
   -- the split of a node that is no leaf is a number of points ..
   pub has-split : HasSplit r n
-  has-split = record { some-segment = d .stands .some-segment; split-above = told .split-above }
+  has-split = record { some-segment = d .stands .fits .some-segment; split-above = told .split-above }
 
   -- .. inside its range
-  pub split-inside : n .first + 1 < n .last → (n .first < splitIn r) × (splitIn r < n .last)
+  pub split-inside : n .first + 1 < n .last → Inner (n .first) (splitIn r) (n .last)
   split-inside h = told .split-between h

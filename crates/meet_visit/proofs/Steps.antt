@@ -6,21 +6,23 @@ use mathlib.Core.List.{List}
 use Prim.Native.Nat.{_+_, _<_}
 use lib.Dec.{T, leb, leb→le, nleb→lt}
 use lib.IntN.{ℤ}
-use Rattle.whole.specs.Order.{yes-T}
+use Rattle.integers.specs.Order.{yes-T}
 use Rattle.rules.specs.declared.Line.the-variants.{LineA, LineB}
+use Rattle.rules.specs.declared.Line.{Line}
+use Rattle.rules.specs.declared.Node.{Node}
 use Rattle.rules.specs.declared.Pair.{Pair}
 use Rattle.rules.specs.declared.Row.{Row}
 use Rattle.rules.specs.Plain.{share}
-use Rattle.rules.specs.Rows.{good}
 use Rattle.rules.specs.Tree.{rowAt}
 use Rattle.rules.specs.Walk.{Visit, refuse, finish, pass}
-use Rattle.rules.specs.Questions.{Nothing, leaf, size, splitIn, openNode, startOf, endOf, meetVisit}
+use Rattle.rules.specs.Questions.{Nothing, leaf, size, leftOf, rightOf, splitIn, openNode, startOf, endOf, meetVisit}
+use Rattle.visits.specs.Nodes.{Inner, RowGood}
 use Rattle.visits.proofs.Nodes.{larger-opens, other-opens}
 use Rattle.row.proofs.Places.{opens}
 use Rattle.meet_visit.specs.declared.Step.{Step}
-use Rattle.meet_visit.specs.declared.Step.the-variants.{HalveA, HalveB}
-use Rattle.meet_visit.specs.Pairs.{Read}
-use Rattle.meet_visit.specs.Said.{stepVisit, SplitsInside, halvesA, halvesB, nodesApart, compared}
+use Rattle.meet_visit.specs.Sides.{sideA, sideB, halvesOn}
+use Rattle.meet_visit.specs.Pairs.{goodAt, Read}
+use Rattle.meet_visit.specs.Steps.{stepVisit, SplitsInside, nodesApart, compared}
 use Rattle.meet_visit.proofs.GoodRows.{split-inside}
 
 -- the definition of a visit, in its parts: the segments of two leaves share a point; the pair is not dismissed; and all
@@ -31,8 +33,8 @@ sharing ps qs n = share (startOf ps (n .a)) (endOf ps (n .a)) (startOf qs (n .b)
 abbrev pub keptVisit : List ℤ → Row → List ℤ → Row → Pair → Visit Nothing Pair
 keptVisit ps r qs q n =
     cond (leaf (n .a) && leaf (n .b)) (cond (sharing ps qs n) finish (pass (λ k. k)))
-    (cond (leb (size (n .b)) (size (n .a))) (openNode LineA ps (n .a) (splitIn r) (halvesA n))
-    (openNode LineB qs (n .b) (splitIn q) (halvesB n)))
+    (cond (leb (size (n .b)) (size (n .a))) (openNode LineA ps (n .a) (splitIn r) (halvesOn sideA n))
+    (openNode LineB qs (n .b) (splitIn q) (halvesOn sideB n)))
 
 abbrev pub comparedVisit : List ℤ → Row → List ℤ → Row → Pair → Visit Nothing Pair
 comparedVisit ps r qs q n = cond (nodesApart ps r qs q n) (pass (λ k. k)) (keptVisit ps r qs q n)
@@ -46,47 +48,41 @@ by-test : (n : Pair) (b : Bool) (s s′ : Step) (v v′ : Visit Nothing Pair)
 by-test n true s s′ v v′ h k = h tt
 by-test n false s s′ v v′ h k = k tt
 
+-- a node that is no leaf splits at an inner point, and its halves have room in the table
+opens-inside : {ps : List ℤ} {r : Row} {m : Node} → Read ps r m → m .first + 1 < m .last
+    → (l : Line) (go : Node → Node → Visit Nothing Pair)
+    → let s = splitIn r in
+    (go (leftOf m s) (rightOf m s) ≡ openNode l ps m s go) × Inner (m .first) s (m .last)
+opens-inside d h l go = let i = split-inside d h in (sym (opens (d .stands) (i .above) (i .below) l go), i)
+
 module _ {ps qs : List ℤ} {r q : Row} (n : Pair) (a : Read ps r (n .a)) (b : Read qs q (n .b)) where
-  -- the node that splits does so at an inner point
-  opens-a : n .a .first + 1 < n .a .last
-      → Does n (HalveA (splitIn r)) (openNode LineA ps (n .a) (splitIn r) (halvesA n))
-  opens-a h = let i = split-inside a h in (sym (opens (a .stands) (i .0) (i .1) LineA (halvesA n)), i)
-
-  opens-b : n .b .first + 1 < n .b .last
-      → Does n (HalveB (splitIn q)) (openNode LineB qs (n .b) (splitIn q) (halvesB n))
-  opens-b h = let i = split-inside b h in (sym (opens (b .stands) (i .0) (i .1) LineB (halvesB n)), i)
-
   pub compared-does : Does n (compared ps r qs q n) (comparedVisit ps r qs q n)
   compared-does =
       by-test n (nodesApart ps r qs q n) _ _ _ _ (λ _. (refl, tt))
       (λ _. by-test n (leaf (n .a) && leaf (n .b)) _ _ _ _
       (λ _. by-test n (sharing ps qs n) _ _ _ _ (λ _. (refl, tt)) (λ _. (refl, tt)))
       (λ u. by-test n (leb (size (n .b)) (size (n .a))) _ _ _ _
-      (λ k. opens-a (larger-opens (n .a) (n .b) u (leb→le _ _ k)))
-      (λ k. opens-b (other-opens (n .a) (n .b) u (nleb→lt _ _ k)))))
+      (λ k. opens-inside a (larger-opens (n .a) (n .b) u (leb→le _ _ k)) LineA (halvesOn sideA n))
+      (λ k. opens-inside b (other-opens (n .a) (n .b) u (nleb→lt _ _ k)) LineB (halvesOn sideB n))))
 
 -- ---------------- what a visit comes to, by which row is bad
 module _ (ps t qs t′ : List ℤ) (n : Pair) where
-  abbrev pub goodA : Bool
-  goodA = good ps (rowAt t (n .a .row)) (n .a .first) (n .a .last)
-
-  abbrev pub goodB : Bool
-  goodB = good qs (rowAt t′ (n .b .row)) (n .b .first) (n .b .last)
-
   abbrev byRows : Bool → Bool → Visit Nothing Pair
   byRows a b =
       cond a (cond b (comparedVisit ps (rowAt t (n .a .row)) qs (rowAt t′ (n .b .row)) n) (refuse 10 LineB (n .b .row)))
       (refuse 10 LineA (n .a .row))
 
-  pub bad-a : goodA ≡ false → refuse 10 LineA (n .a .row) ≡ meetVisit ps t qs t′ n
+  pub bad-a : goodAt ps t (n .a) ≡ false → refuse 10 LineA (n .a .row) ≡ meetVisit ps t qs t′ n
   unfolding meetVisit
-  bad-a e = sym (λ i. byRows (e i) goodB)
+  bad-a e = sym (λ i. byRows (e i) (goodAt qs t′ (n .b)))
 
-  pub bad-b : T goodA → goodB ≡ false → refuse 10 LineB (n .b .row) ≡ meetVisit ps t qs t′ n
+  pub bad-b : RowGood ps t (n .a) → goodAt qs t′ (n .b) ≡ false → refuse 10 LineB (n .b .row) ≡ meetVisit ps t qs t′ n
   unfolding meetVisit
-  bad-b h e = let g = yes-T goodA h in sym (λ i. byRows (g i) (e i))
+  bad-b h e = let g = yes-T (goodAt ps t (n .a)) h in sym (λ i. byRows (g i) (e i))
 
-  pub both-good : T goodA → T goodB
+  pub both-good : RowGood ps t (n .a) → RowGood qs t′ (n .b)
       → comparedVisit ps (rowAt t (n .a .row)) qs (rowAt t′ (n .b .row)) n ≡ meetVisit ps t qs t′ n
   unfolding meetVisit
-  both-good h k = let g = yes-T goodA h in let e = yes-T goodB k in sym (λ i. byRows (g i) (e i))
+  both-good h k =
+      let g = yes-T (goodAt ps t (n .a)) h in
+      let e = yes-T (goodAt qs t′ (n .b)) k in sym (λ i. byRows (g i) (e i))

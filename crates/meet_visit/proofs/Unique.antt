@@ -1,5 +1,5 @@
--- What a visit of a pair does is done by one outcome alone: from the written visit the outcome is read back. A pair whose first
--- node has kept its row is halved at B's.
+-- What a visit of a pair does is done by one outcome alone: from the written visit the outcome is read back. A pair
+-- whose first node has kept its row is halved at B's.
 use mathlib.Core.Path.{_≡_, refl, ap}
 use mathlib.Core.Bool.{Bool, cond}
 use Prim.Native.Nat.{_+_}
@@ -12,7 +12,7 @@ use Rattle.rules.specs.Questions.{Nothing}
 use Rattle.rules.proofs.Unique.{said-once}
 use Rattle.meet_visit.specs.declared.Step.{Step}
 use Rattle.meet_visit.specs.declared.Step.the-variants.{Finish, Pass, HalveA, HalveB}
-use Rattle.meet_visit.specs.Said.{stepVisit}
+use Rattle.meet_visit.specs.Steps.{stepVisit}
 
 stepBack : Pair → Visit Nothing Pair → Step
 stepBack n (refuse number line place) = Pass

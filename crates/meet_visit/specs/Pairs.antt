@@ -1,4 +1,5 @@
 -- What the functions of `meet_visit` may count on: nodes that lie inside their lines and tables, with good rows.
+use mathlib.Core.Bool.{Bool}
 use mathlib.Core.List.{List}
 use Prim.Native.Nat.{_+_, _<_}
 use lib.Dec.{T}
@@ -9,18 +10,22 @@ use Rattle.rules.specs.declared.Pair.{Pair}
 use Rattle.rules.specs.declared.Row.{Row}
 use Rattle.rules.specs.Tree.{rowAt}
 use Rattle.rules.specs.Rows.{good}
+use Rattle.visits.specs.Nodes.{RowGood}
 use Rattle.row.specs.Stands.{Stands}
 
--- the row of a node is good
-abbrev pub GoodAt : List ℤ → List ℤ → Node → Type 0
-GoodAt ps t n = T (good ps (rowAt t (n .row)) (n .first) (n .last))
+-- whether the row of a node is good
+abbrev pub goodAt : List ℤ → List ℤ → Node → Bool
+goodAt ps t n = good ps (rowAt t (n .row)) (n .first) (n .last)
 
--- each node of a pair stands in its line and table, and its row is good
-pub record PairGood (ps t qs t′ : List ℤ) (n : Pair) : Type 0 where
-  pub a-stands : Stands ps t (n .a)
-  pub b-stands : Stands qs t′ (n .b)
-  pub a-good : GoodAt ps t (n .a)
-  pub b-good : GoodAt qs t′ (n .b)
+-- a node stands in its line and table, and its row is good
+pub record NodeStands (ps t : List ℤ) (n : Node) : Type 0 where
+  pub stands : Stands ps t n
+  pub row-good : RowGood ps t n
+
+-- so do both nodes of a pair
+pub record PairStands (ps t qs t′ : List ℤ) (n : Pair) : Type 0 where
+  pub of-a : NodeStands ps t (n .a)
+  pub of-b : NodeStands qs t′ (n .b)
 
 -- a node stands, with some table, and its row was read and is good
 pub record Read (ps : List ℤ) (r : Row) (n : Node) : Type 0 where

@@ -14,10 +14,11 @@ ghost use mathlib.Core.Path.{_≡_};
 ghost use mathlib.Core.Bool.{not, _&&_};
 ghost use Prim.Native.Nat.{_<_};
 ghost use lib.Dec.{T};
+ghost use Rattle.rules.specs.Sheet.{most};
 ghost use Rattle.rules.specs.Questions.{leaf, meetVisit};
-ghost use Rattle.visits.specs.Small.{OnSheet};
-ghost use Rattle.meet_visit.specs.Pairs.{HasSplit, Read, PairGood};
-ghost use Rattle.meet_visit.specs.Said.{stepVisit, SplitsInside, tested, opened, compared};
+ghost use Rattle.limits.specs.Small.{OnSheet};
+ghost use Rattle.meet_visit.specs.Pairs.{HasSplit, Read, PairStands};
+ghost use Rattle.meet_visit.specs.Steps.{stepVisit, SplitsInside, tested, opened, compared};
 
 // What one visit does: a yes; nothing shared; or a node is halved, at a point.
 pub enum Step {
@@ -28,21 +29,21 @@ pub enum Step {
 }
 
 // The node with more segments splits, A on a tie.
-fn open_larger(r: Row, q: Row, pair: Pair) -> Step
-    requires { ⌜ HasSplit r (pair .a) × HasSplit q (pair .b) ⌝ }
+fn open_larger(row_a: Row, row_b: Row, pair: Pair) -> Step
+    requires { ⌜ HasSplit «row_a» (pair .a) × HasSplit «row_b» (pair .b) ⌝ }
     requires { ⌜ T (not (leaf (pair .a) && leaf (pair .b))) ⌝ }
-    ensures { λ s. ⌜ s ≡ opened r q pair ⌝ }
+    ensures { λ s. ⌜ s ≡ opened «row_a» «row_b» pair ⌝ }
 {
     let a = pair.a;
     let b = pair.b;
     if b.last - b.first <= a.last - a.first {
-        return Step::HalveA(split_of(r));
+        return Step::HalveA(split_of(row_a));
     }
-    Step::HalveB(split_of(q))
+    Step::HalveB(split_of(row_b))
 }
 
 fn both_leaves(a: Node, b: Node) -> bool
-    requires { ⌜ (a .first < 4097) × (b .first < 4097) ⌝ }
+    requires { ⌜ (a .first < most) × (b .first < most) ⌝ }
     ensures { λ r. ⌜ r ≡ leaf a && leaf b ⌝ }
 {
     a.last <= a.first + 1 && b.last <= b.first + 1
@@ -60,9 +61,9 @@ fn test(a: Point, b: Point, c: Point, d: Point) -> Step
 }
 
 // What is done with two good rows.
-fn compare(points_a: &[i32], r: Row, points_b: &[i32], q: Row, pair: Pair) -> Step
-    requires { ⌜ Read (now «points_a») r (pair .a) × Read (now «points_b») q (pair .b) ⌝ }
-    ensures { λ s. ⌜ s ≡ compared (now («points_a» .entry)) r (now («points_b» .entry)) q pair ⌝ }
+fn compare(points_a: &[i32], row_a: Row, points_b: &[i32], row_b: Row, pair: Pair) -> Step
+    requires { ⌜ Read (now «points_a») «row_a» (pair .a) × Read (now «points_b») «row_b» (pair .b) ⌝ }
+    ensures { λ s. ⌜ s ≡ compared (now («points_a» .entry)) «row_a» (now («points_b» .entry)) «row_b» pair ⌝ }
 {
     let a = pair.a;
     let b = pair.b;
@@ -71,10 +72,10 @@ fn compare(points_a: &[i32], r: Row, points_b: &[i32], q: Row, pair: Pair) -> St
     let start_b = point_at(points_b, b.first);
     let end_b = point_at(points_b, b.last);
     if apart(
-        r,
+        row_a,
         start_a,
         direction(start_a, end_a),
-        q,
+        row_b,
         start_b,
         direction(start_b, end_b),
     ) {
@@ -83,7 +84,7 @@ fn compare(points_a: &[i32], r: Row, points_b: &[i32], q: Row, pair: Pair) -> St
     if both_leaves(a, b) {
         return test(start_a, end_a, start_b, end_b);
     }
-    open_larger(r, q, pair)
+    open_larger(row_a, row_b, pair)
 }
 
 // One visit of a pair whose rows are known to be good.
@@ -94,7 +95,7 @@ pub fn visit(
     table_b: &[i32],
     pair: Pair,
 ) -> Step
-    requires { ⌜ PairGood (now «points_a») (now «table_a») (now «points_b») (now «table_b») pair ⌝ }
+    requires { ⌜ PairStands (now «points_a») (now «table_a») (now «points_b») (now «table_b») pair ⌝ }
     ensures { λ s. ⌜ stepVisit pair s
         ≡ meetVisit (now («points_a» .entry)) (now («table_a» .entry))
         (now («points_b» .entry)) (now («table_b» .entry)) pair ⌝ }
@@ -102,7 +103,7 @@ pub fn visit(
 {
     let a = pair.a;
     let b = pair.b;
-    let r = row_at(table_a, a.row);
-    let q = row_at(table_b, b.row);
-    compare(points_a, r, points_b, q, pair)
+    let row_a = row_at(table_a, a.row);
+    let row_b = row_at(table_b, b.row);
+    compare(points_a, row_a, points_b, row_b, pair)
 }

@@ -1,106 +1,193 @@
--- The halves of a pair have fewer segments, and are good pairs where the row that is new in them is good.
+-- A pair is halved on one side: its halves have fewer segments, and are pairs to walk from where the row that is new in
+-- them is good; and what is handed back of them says what the walk comes to. Each law is said once, for either side.
+use mathlib.Core.Path.{_≡_, refl, sym, _∙_}
+use mathlib.Core.Bool.{Bool, true, false, not}
 use mathlib.Core.List.{List}
-use Prim.Native.Nat.{ℕ, pred, _+_, _*_, _<_, _≤_}
+use Prim.Native.Nat.{ℕ, pred, _+_, _<_, _≤_}
 use native.Mathlib.Omega.{arith}
+use borrow.Author.Tests.{not-true, not-false}
+use lib.Dec.{T, leb}
 use lib.IntN.{ℤ}
-use lib.ListN.{length}
+use Rattle.integers.specs.Order.{T-true}
+use Rattle.rules.specs.declared.Line.the-variants.{LineA, LineB}
+use Rattle.rules.specs.declared.Next.the-variants.{Left}
 use Rattle.rules.specs.declared.Node.{Node}
 use Rattle.rules.specs.declared.Pair.{Pair}
-use Rattle.rules.specs.Tree.{width}
-use Rattle.rules.specs.Questions.{leftOf, rightOf}
-use Rattle.row.specs.Stands.{Stands}
-use Rattle.row.proofs.Places.{left-stands, right-stands}
-use Rattle.meet_visit.specs.Pairs.{GoodAt, PairGood}
+use Rattle.rules.specs.declared.Tally.{Tally}
+use Rattle.rules.specs.Sheet.{point, onSheet}
+use Rattle.rules.specs.Tree.{rowAt}
+use Rattle.rules.specs.Walk.{next, refuse, halve}
+use Rattle.rules.specs.Questions.{Nothing, size, leftOf, rightOf, meetVisit}
+use Rattle.visits.proofs.Nodes.{GoodRow, good-read}
+use Rattle.row.specs.Stands.{Stands, EndsOn}
+use Rattle.row.proofs.Places.{row-small, left-stands, right-stands}
+use Rattle.ending.specs.Ending.{endIn, ENDED, badRow, badSecond, tallyIn, due}
+use Rattle.ending.proofs.OneLevel.{Level, says, whole, below, left-stops, right-goes}
+use Rattle.ending.proofs.OneLevel.{bad-left, second-bad-left, bad-right, second-bad-right}
+use Rattle.meet_visit.specs.Sides.{Side, sideA, sideB, on, lineOn, nodeOn, withNode, leftOn, rightOn}
+use Rattle.meet_visit.specs.Pairs.{goodAt, NodeStands, PairStands}
+use Rattle.meet_visit.proofs.Steps.{bad-a, bad-b}
 use Rattle.meet_walk.specs.Pair.{segments}
+use Rattle.meet_walk.specs.Walks.{HalvedOn, Walks, WalksOn}
 
--- what reading and checking the row of a node asks: a row of the table, and a range of points of the line
-module _ {ps t : List ℤ} {n : Node} (h : Stands ps t n) where
-  pub row-in : width * n .row + width ≤ length t
-  row-in = omega (arith, h .some-segment, h .rows-in, h .fine .table-long)
-
-  pub range-in : (n .first < n .last) × (n .last < 4097) × (2 * n .last + 1 < length ps)
-  range-in = (
-    h .some-segment,
-    omega (arith, h .points-in, h .fine .not-more),
-    omega (arith, h .some-segment, h .points-in, h .fine .whole-points),
-  )
-
--- the halves, by a split of A's node or of B's
-abbrev pub leftA : Pair → ℕ → Pair
-leftA n s = record { a = leftOf (n .a) s; b = n .b }
-
-abbrev pub rightA : Pair → ℕ → Pair
-rightA n s = record { a = rightOf (n .a) s; b = n .b }
-
-abbrev pub leftB : Pair → ℕ → Pair
-leftB n s = record { a = n .a; b = leftOf (n .b) s }
-
-abbrev pub rightB : Pair → ℕ → Pair
-rightB n s = record { a = n .a; b = rightOf (n .b) s }
-
--- a half has segments, and fewer than the pair has, so one level less is enough for it
+-- ---------------- fewer segments: a half has some, and fewer than the pair, so one level less is enough for it
 pub record Fewer (m n : Pair) : Type 0 where
   pub some : 0 < segments m
   pub less : segments m < segments n
 
-pub enough : {m n : Pair} {f : ℕ} → Fewer m n → segments n ≤ f → segments m ≤ pred f
-enough k h = below (k .less) h
-  where
-    below : {m n f : ℕ} → m < n → n ≤ f → m ≤ pred f
-    below k h = omega arith
+fewer-on : (k : Side) (n : Pair) (m : Node) → m .first < m .last → size m < size (nodeOn k n) → Fewer (withNode k n m) n
+fewer-on sideA n m some less = record { some = omega arith; less = omega arith }
+fewer-on sideB n m some less = record { some = omega arith; less = omega arith }
 
-pub some-level : {m n : Pair} {f : ℕ} → Fewer m n → segments n ≤ f → 0 < pred f
+enough : {m n : Pair} {f : ℕ} → Fewer m n → segments n ≤ f → segments m ≤ pred f
+enough k h = one-less (k .less) h
+  where
+    one-less : {m n f : ℕ} → m < n → n ≤ f → m ≤ pred f
+    one-less k h = omega arith
+
+some-level : {m n : Pair} {f : ℕ} → Fewer m n → segments n ≤ f → 0 < pred f
 some-level k h = above (k .some) (enough k h)
   where
     above : {m f : ℕ} → 0 < m → m ≤ f → 0 < f
     above k h = omega arith
 
-module _ (n : Pair) {s : ℕ} where
-  module _ (low : n .a .first < s) (high : s < n .a .last) where
-    pub left-fewer-a : Fewer (leftA n s) n
-    left-fewer-a = record { some = omega arith; less = omega arith }
+-- ---------------- one level of the walk from a pair
+module _ {ps t qs t′ : List ℤ} {n : Pair} (h : PairStands ps t qs t′ n) where
+  pub some-segment : {f : ℕ} → segments n ≤ f → 0 < f
+  some-segment e = let a = h .of-a .stands .fits .some-segment in omega arith
 
-    pub right-fewer-a : Fewer (rightA n s) n
-    right-fewer-a = record { some = omega arith; less = omega arith }
+  abbrev pub levelOf : (y : Tally) (f : ℕ) → segments n ≤ f → Level Nothing Pair
+  levelOf y f e = record {
+    even = tt;
+    odd = tt;
+    first = LineA;
+    second = LineB;
+    does = meetVisit ps t qs t′;
+    node = n;
+    count = tt;
+    tally = y;
+    levels = f;
+    some-level = some-segment e;
+  }
 
-  module _ (low : n .b .first < s) (high : s < n .b .last) where
-    pub left-fewer-b : Fewer (leftB n s) n
-    left-fewer-b = record { some = omega arith; less = omega arith }
+  -- ---------------- the node on a side, and another in its place
+  stands-on : (k : Side) → NodeStands (on k ps qs) (on k t t′) (nodeOn k n)
+  stands-on sideA = h .of-a
+  stands-on sideB = h .of-b
 
-    pub right-fewer-b : Fewer (rightB n s) n
-    right-fewer-b = record { some = omega arith; less = omega arith }
+  with-stands : (k : Side) {m : Node} → NodeStands (on k ps qs) (on k t t′) m → PairStands ps t qs t′ (withNode k n m)
+  with-stands sideA g = record { of-a = g; of-b = h .of-b }
+  with-stands sideB g = record { of-a = h .of-a; of-b = g }
 
-module _ {ps t qs t′ : List ℤ} {n : Pair} (h : PairGood ps t qs t′ n) where
-  module _ {s : ℕ} (low : n .a .first < s) (high : s < n .a .last) where
-    pub left-good-a : GoodAt ps t (leftOf (n .a) s) → PairGood ps t qs t′ (leftA n s)
-    left-good-a g = record {
-      a-stands = left-stands (h .a-stands) low high;
-      b-stands = h .b-stands;
-      a-good = g;
-      b-good = h .b-good;
-    }
+  bad-on : (k : Side) (m : Node) → goodAt (on k ps qs) (on k t t′) m ≡ false
+      → refuse 10 (lineOn k) (m .row) ≡ meetVisit ps t qs t′ (withNode k n m)
+  bad-on sideA m e = bad-a ps t qs t′ (withNode sideA n m) e
+  bad-on sideB m e = bad-b ps t qs t′ (withNode sideB n m) (h .of-a .row-good) e
 
-    pub right-good-a : GoodAt ps t (rightOf (n .a) s) → PairGood ps t qs t′ (rightA n s)
-    right-good-a g = record {
-      a-stands = right-stands (h .a-stands) low high;
-      b-stands = h .b-stands;
-      a-good = g;
-      b-good = h .b-good;
-    }
+-- what a number says of a bad row on a side, and what the walk comes to where a half has one
+abbrev pub badOn : Side → ℕ
+badOn k = on k badRow badSecond
 
-  module _ {s : ℕ} (low : n .b .first < s) (high : s < n .b .last) where
-    pub left-good-b : GoodAt qs t′ (leftOf (n .b) s) → PairGood ps t qs t′ (leftB n s)
-    left-good-b g = record {
-      a-stands = h .a-stands;
-      b-stands = left-stands (h .b-stands) low high;
-      a-good = h .a-good;
-      b-good = g;
-    }
+module _ {ps t : List ℤ} {m : Node} (h : Stands ps t m) (v : Level Nothing Pair) {counted : Tally}
+    (made : next (v .tally) ≡ Left counted) {l r : Pair} (halves : halve l r ≡ v .does (v .node))
+    (more : 0 < pred (v .levels)) {ending : ℕ} where
+  bad-left-on : (k : Side) → ending ≡ due (next counted) (badOn k + m .row)
+      → refuse 10 (on k (v .first) (v .second)) (m .row) ≡ v .does l → says v (v .tally) ending ≡ whole v
+  bad-left-on sideA = bad-left v made halves more (row-small h)
+  bad-left-on sideB = second-bad-left v made halves more (row-small h)
 
-    pub right-good-b : GoodAt qs t′ (rightOf (n .b) s) → PairGood ps t qs t′ (rightB n s)
-    right-good-b g = record {
-      a-stands = h .a-stands;
-      b-stands = right-stands (h .b-stands) low high;
-      a-good = h .a-good;
-      b-good = g;
-    }
+  module _ (left : ℕ) (comes : says v counted left ≡ below v l (v .count) counted)
+      (goes : leb ENDED (endIn left) ≡ false) {y : Tally} (tallied : y ≡ tallyIn (counted .allowance) left) where
+    bad-right-on : (k : Side) → ending ≡ due (next y) (badOn k + m .row)
+        → refuse 10 (on k (v .first) (v .second)) (m .row) ≡ v .does r → says v (v .tally) ending ≡ whole v
+    bad-right-on sideA = bad-right v made halves left comes goes tallied more (row-small h)
+    bad-right-on sideB = second-bad-right v made halves left comes goes tallied more (row-small h)
+
+-- a row that was asked for is good
+is-good : {g b : Bool} → g ≡ b → not g ≡ false → T b
+is-good said g = T-true (sym said ∙ not-false _ g)
+
+-- the left half is walked and is over, and this tally follows
+pub record LeftOver {k : Side} {ps t qs t′ : List ℤ} {n : Pair} {split : ℕ} (o : HalvedOn k ps t qs t′ n split)
+    (counted following : Tally) : Type 0 where
+  pub left : ℕ
+  pub comes : Walks ps t qs t′ (leftOn k n split) counted left
+  pub goes : leb ENDED (endIn left) ≡ false
+  pub tallied : following ≡ tallyIn (counted .allowance) left
+
+-- ---------------- the halves on a side
+module _ {k : Side} {ps t qs t′ : List ℤ} {n : Pair} {split : ℕ} (o : HalvedOn k ps t qs t′ n split) where
+  abbrev points : List ℤ
+  points = on k ps qs
+
+  abbrev table : List ℤ
+  table = on k t t′
+
+  abbrev leftNode : Node
+  leftNode = leftOf (nodeOn k n) split
+
+  abbrev rightNode : Node
+  rightNode = rightOf (nodeOn k n) split
+
+  pub left-half : Stands points table leftNode
+  left-half = left-stands (stands-on (o .pair-stands) k .stands) (o .inner .above) (o .inner .below)
+
+  pub right-half : Stands points table rightNode
+  right-half = right-stands (stands-on (o .pair-stands) k .stands) (o .inner .above) (o .inner .below)
+
+  -- what the row of the node tells, and that of the left half: where they begin and end
+  tells : GoodRow points (rowAt table (nodeOn k n .row)) (nodeOn k n .first) (nodeOn k n .last)
+  tells = good-read points _ (nodeOn k n .first) (nodeOn k n .last) (stands-on (o .pair-stands) k .row-good)
+
+  pub left-start : T (onSheet (point points (leftNode .first)))
+  left-start = tells .start-on
+
+  -- where the row of the left half was asked for and is good, it tells where the right half begins
+  pub right-ends : {g : Bool} → g ≡ goodAt points table leftNode → not g ≡ false → EndsOn points rightNode
+  right-ends said g =
+      let r = good-read points _ (leftNode .first) split (is-good said g) in
+      record { start-on = r .end-on; end-on = tells .end-on }
+
+  pub left-fewer : Fewer (leftOn k n split) n
+  left-fewer = fewer-on k n leftNode (o .inner .above) (omega (arith, o .inner))
+
+  pub right-fewer : Fewer (rightOn k n split) n
+  right-fewer = fewer-on k n rightNode (o .inner .below) (omega (arith, o .inner))
+
+  -- a half is a pair to walk from where its row was asked for and is good
+  pub left-pair : {g : Bool} → g ≡ goodAt points table leftNode → not g ≡ false
+      → PairStands ps t qs t′ (leftOn k n split)
+  left-pair said g = with-stands (o .pair-stands) k (record { stands = left-half; row-good = is-good said g })
+
+  pub right-pair : {g : Bool} → g ≡ goodAt points table rightNode → not g ≡ false
+      → PairStands ps t qs t′ (rightOn k n split)
+  right-pair said g = with-stands (o .pair-stands) k (record { stands = right-half; row-good = is-good said g })
+
+  -- ---------------- what is handed back, by how far the halves were walked
+  module _ {counted : Tally} where
+    pub left-bad : {ending : ℕ} {g : Bool} → g ≡ goodAt points table leftNode → not g ≡ true
+        → ending ≡ due (next counted) (badOn k + leftNode .row) → WalksOn ps t qs t′ n counted ending
+    left-bad said g is y made f e =
+        bad-left-on left-half (levelOf (o .pair-stands) y f e) made (o .visit) (some-level left-fewer e) k is
+        (bad-on (o .pair-stands) k leftNode (sym said ∙ not-true _ g))
+
+    pub left-stopped : (left : ℕ) → Walks ps t qs t′ (leftOn k n split) counted left
+        → {q : Bool} → q ≡ leb ENDED (endIn left) → q ≡ true → WalksOn ps t qs t′ n counted left
+    left-stopped left comes said stop y made f e =
+        left-stops (levelOf (o .pair-stands) y f e) made (o .visit) left (comes (pred f) (enough left-fewer e))
+        (sym said ∙ stop)
+
+    module _ {following : Tally} (w : LeftOver o counted following) where
+      pub right-bad : {ending : ℕ} {g : Bool} → g ≡ goodAt points table rightNode → not g ≡ true
+          → ending ≡ due (next following) (badOn k + rightNode .row) → WalksOn ps t qs t′ n counted ending
+      right-bad said g is y made f e =
+          bad-right-on right-half (levelOf (o .pair-stands) y f e) made (o .visit) (some-level right-fewer e)
+          (w .left) (w .comes (pred f) (enough left-fewer e)) (w .goes) (w .tallied) k is
+          (bad-on (o .pair-stands) k rightNode (sym said ∙ not-true _ g))
+
+      pub right-comes : (ending : ℕ) → Walks ps t qs t′ (rightOn k n split) following ending
+          → WalksOn ps t qs t′ n counted ending
+      right-comes ending comes y made f e =
+          right-goes (levelOf (o .pair-stands) y f e) made (o .visit) (w .left)
+          (w .comes (pred f) (enough left-fewer e)) (w .goes) (w .tallied) ending refl
+          (comes (pred f) (enough right-fewer e))

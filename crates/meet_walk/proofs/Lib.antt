@@ -1,2 +1,2 @@
--- What the proof of `walk` stands on.
+-- Laws that the proof of `meet_walk` shares.
 pub mod Halves

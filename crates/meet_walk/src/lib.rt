@@ -1,57 +1,165 @@
 // The walk of MEET from a pair of nodes on. Of a pair only one row is new, so a row is checked before the walk goes to
 // it. `walk` takes a pair whose rows are good, and comes to what the written walk of `rules` comes to from there.
-use ends::ENDED;
-use ends::EVEN;
-use ends::SPENT;
-use ends::bad_row_due;
-use ends::bad_second_due;
-use ends::came;
-use ends::stopped;
-use ends::tally_in;
+use ending::ENDED;
+use ending::EVEN;
+use ending::SPENT;
+use ending::bad_row_due;
+use ending::bad_second_due;
+use ending::pack;
+use ending::stopped;
+use ending::tally_in;
 use meet_visit::Step;
 use meet_visit::visit;
 use row::good_between;
 use row::good_from;
 use row::row_at;
-use rules::Line;
 use rules::Next;
 use rules::Node;
 use rules::Pair;
 use rules::Tally;
 ghost use mathlib.Core.Path.{_≡_};
-ghost use Prim.Native.Nat.{ℕ, _≤_};
-ghost use Rattle.rules.specs.Walk.{walk};
-ghost use Rattle.rules.specs.Questions.{meetVisit};
-ghost use Rattle.ends.specs.Came.{cameTo};
-ghost use Rattle.meet_visit.specs.Pairs.{PairGood};
-ghost use Rattle.meet_walk.specs.Pair.{pairOf, segments};
+ghost use lib.Dec.{T};
+ghost use Rattle.rules.specs.Sheet.{point, onSheet};
+ghost use Rattle.row.specs.Stands.{Stands, EndsOn};
+ghost use Rattle.meet_visit.specs.Pairs.{goodAt, PairStands};
+ghost use Rattle.meet_visit.specs.Sides.{sideA, sideB};
+ghost use Rattle.meet_walk.specs.Pair.{nodeOf, pairOf};
+ghost use Rattle.meet_walk.specs.Walks.{HalvedOn, Walks, WalksOn};
 
-// The pair of a node of A and a node of B, each given by its row and its range of points.
-fn pair_of(
-    row_a: usize,
-    first_a: usize,
-    last_a: usize,
-    row_b: usize,
-    first_b: usize,
-    last_b: usize,
-) -> Pair
-    ensures { λ r. ⌜ r ≡ pairOf «row_a» «first_a» «last_a» «row_b» «first_b» «last_b» ⌝ }
+// Whether the row of a left half is good: it begins where its parent begins, on the sheet.
+fn left_good(points: &[i32], table: &[i32], row: usize, first: usize, last: usize) -> bool
+    requires { ⌜ Stands (now points) (now table) (nodeOf row first last) ⌝ }
+    requires { ⌜ T (onSheet (point (now points) first)) ⌝ }
+    ensures { λ g. ⌜ g ≡ goodAt (now (points .entry)) (now (table .entry)) (nodeOf row first last) ⌝ }
 {
-    let a = Node {
-        row: row_a,
-        first: first_a,
-        last: last_a,
-    };
-    let b = Node {
-        row: row_b,
-        first: first_b,
-        last: last_b,
-    };
-    Pair { a, b }
+    good_from(points, row_at(table, row), first, last)
 }
 
-// The walk from a pair on, the left half first; a yes ends it, and so does a bad row of a half. Each visit takes the
-// tally and gives the next one back. The pair comes as plain numbers, so that it stays in registers.
+// Whether the row of a right half is good: it begins and ends on the sheet.
+fn right_good(points: &[i32], table: &[i32], row: usize, first: usize, last: usize) -> bool
+    requires { ⌜ Stands (now points) (now table) (nodeOf row first last) ⌝ }
+    requires { ⌜ EndsOn (now points) (nodeOf row first last) ⌝ }
+    ensures { λ g. ⌜ g ≡ goodAt (now (points .entry)) (now (table .entry)) (nodeOf row first last) ⌝ }
+{
+    good_between(points, row_at(table, row), first, last)
+}
+
+// The walk goes on in the halves of A's node, the left half first; a bad row of a half ends it.
+fn halve_a(
+    points_a: &&[i32],
+    table_a: &&[i32],
+    points_b: &&[i32],
+    table_b: &&[i32],
+    pair: Pair,
+    split: usize,
+    counted: Tally,
+) -> u64
+    requires { ⌜ HalvedOn sideA (now (now «points_a»)) (now (now «table_a»))
+        (now (now «points_b»)) (now (now «table_b»)) pair split ⌝ }
+    ensures { λ r. ⌜ WalksOn (now (now («points_a» .entry))) (now (now («table_a» .entry)))
+        (now (now («points_b» .entry))) (now (now («table_b» .entry))) pair counted r ⌝ }
+{
+    let a = pair.a;
+    let b = pair.b;
+    let next_row = a.row + 1;
+    if !left_good(*points_a, *table_a, next_row, a.first, split) {
+        return bad_row_due(counted, next_row);
+    }
+    let left = walk(
+        points_a,
+        table_a,
+        points_b,
+        table_b,
+        next_row,
+        a.first,
+        split,
+        b.row,
+        b.first,
+        b.last,
+        counted,
+    );
+    if stopped(left) {
+        return left;
+    }
+    let right = a.row + 2 * (split - a.first);
+    let next = tally_in(counted.allowance, left);
+    if !right_good(*points_a, *table_a, right, split, a.last) {
+        return bad_row_due(next, right);
+    }
+    walk(
+        points_a,
+        table_a,
+        points_b,
+        table_b,
+        right,
+        split,
+        a.last,
+        b.row,
+        b.first,
+        b.last,
+        next,
+    )
+}
+
+// The walk goes on in the halves of B's node, the left half first; a bad row of a half ends it.
+fn halve_b(
+    points_a: &&[i32],
+    table_a: &&[i32],
+    points_b: &&[i32],
+    table_b: &&[i32],
+    pair: Pair,
+    split: usize,
+    counted: Tally,
+) -> u64
+    requires { ⌜ HalvedOn sideB (now (now «points_a»)) (now (now «table_a»))
+        (now (now «points_b»)) (now (now «table_b»)) pair split ⌝ }
+    ensures { λ r. ⌜ WalksOn (now (now («points_a» .entry))) (now (now («table_a» .entry)))
+        (now (now («points_b» .entry))) (now (now («table_b» .entry))) pair counted r ⌝ }
+{
+    let a = pair.a;
+    let b = pair.b;
+    let next_row = b.row + 1;
+    if !left_good(*points_b, *table_b, next_row, b.first, split) {
+        return bad_second_due(counted, next_row);
+    }
+    let left = walk(
+        points_a,
+        table_a,
+        points_b,
+        table_b,
+        a.row,
+        a.first,
+        a.last,
+        next_row,
+        b.first,
+        split,
+        counted,
+    );
+    if stopped(left) {
+        return left;
+    }
+    let right = b.row + 2 * (split - b.first);
+    let next = tally_in(counted.allowance, left);
+    if !right_good(*points_b, *table_b, right, split, b.last) {
+        return bad_second_due(next, right);
+    }
+    walk(
+        points_a,
+        table_a,
+        points_b,
+        table_b,
+        a.row,
+        a.first,
+        a.last,
+        right,
+        split,
+        b.last,
+        next,
+    )
+}
+
+// The walk from a pair on; a yes ends it. Each visit takes the tally and gives the next one back. The pair comes as
+// plain numbers, so that it stays in registers.
 pub fn walk(
     points_a: &&[i32],
     table_a: &&[i32],
@@ -65,98 +173,30 @@ pub fn walk(
     last_b: usize,
     tally: Tally,
 ) -> u64
-    requires { ⌜ PairGood (now (now «points_a»)) (now (now «table_a»)) (now (now «points_b»)) (now (now «table_b»))
+    requires { ⌜ PairStands (now (now «points_a»)) (now (now «table_a»)) (now (now «points_b»)) (now (now «table_b»))
         (pairOf «row_a» «first_a» «last_a» «row_b» «first_b» «last_b») ⌝ }
-    ensures { λ r. ⌜ ((f : ℕ) → segments (pairOf «row_a» «first_a» «last_a» «row_b» «first_b» «last_b») ≤ f
-        → cameTo tt tt Line.LineA Line.LineB (tally .allowance) r
-        ≡ walk (meetVisit (now (now («points_a» .entry))) (now (now («table_a» .entry)))
-        (now (now («points_b» .entry))) (now (now («table_b» .entry))))
-        f (pairOf «row_a» «first_a» «last_a» «row_b» «first_b» «last_b») tt tally) ⌝ }
+    ensures { λ r. ⌜ Walks (now (now («points_a» .entry))) (now (now («table_a» .entry)))
+        (now (now («points_b» .entry))) (now (now («table_b» .entry)))
+        (pairOf «row_a» «first_a» «last_a» «row_b» «first_b» «last_b») tally r ⌝ }
 {
     let Next::Left(counted) = tally.visit() else {
-        return came(0, SPENT);
+        return pack(0, SPENT);
     };
-    let pair = pair_of(row_a, first_a, last_a, row_b, first_b, last_b);
+    let a = Node {
+        row: row_a,
+        first: first_a,
+        last: last_a,
+    };
+    let b = Node {
+        row: row_b,
+        first: first_b,
+        last: last_b,
+    };
+    let pair = Pair { a, b };
     match visit(*points_a, *table_a, *points_b, *table_b, pair) {
-        Step::Finish => came(counted.visits, ENDED),
-        Step::Pass => came(counted.visits, EVEN),
-        Step::HalveA(split) => {
-            if !good_from(*points_a, row_at(*table_a, row_a + 1), first_a, split) {
-                return bad_row_due(counted, row_a + 1);
-            }
-            let left = walk(
-                points_a,
-                table_a,
-                points_b,
-                table_b,
-                row_a + 1,
-                first_a,
-                split,
-                row_b,
-                first_b,
-                last_b,
-                counted,
-            );
-            if stopped(left) {
-                return left;
-            }
-            let right = row_a + 2 * (split - first_a);
-            let next = tally_in(counted.allowance, left);
-            if !good_between(*points_a, row_at(*table_a, right), split, last_a) {
-                return bad_row_due(next, right);
-            }
-            walk(
-                points_a,
-                table_a,
-                points_b,
-                table_b,
-                right,
-                split,
-                last_a,
-                row_b,
-                first_b,
-                last_b,
-                next,
-            )
-        }
-        Step::HalveB(split) => {
-            if !good_from(*points_b, row_at(*table_b, row_b + 1), first_b, split) {
-                return bad_second_due(counted, row_b + 1);
-            }
-            let left = walk(
-                points_a,
-                table_a,
-                points_b,
-                table_b,
-                row_a,
-                first_a,
-                last_a,
-                row_b + 1,
-                first_b,
-                split,
-                counted,
-            );
-            if stopped(left) {
-                return left;
-            }
-            let right = row_b + 2 * (split - first_b);
-            let next = tally_in(counted.allowance, left);
-            if !good_between(*points_b, row_at(*table_b, right), split, last_b) {
-                return bad_second_due(next, right);
-            }
-            walk(
-                points_a,
-                table_a,
-                points_b,
-                table_b,
-                row_a,
-                first_a,
-                last_a,
-                right,
-                split,
-                last_b,
-                next,
-            )
-        }
+        Step::Finish => pack(counted.visits, ENDED),
+        Step::Pass => pack(counted.visits, EVEN),
+        Step::HalveA(split) => halve_a(points_a, table_a, points_b, table_b, pair, split, counted),
+        Step::HalveB(split) => halve_b(points_a, table_a, points_b, table_b, pair, split, counted),
     }
 }

@@ -1,80 +1,84 @@
-// One visit of NEAR: it reads one row, checks it, and dismisses the node, tests its one segment or halves it. What it does
-// is what `rules` writes, for all numbers that the slices can hold.
+// One visit of NEAR: it reads one row, checks it, and dismisses the node, tests its one segment or halves it. What it
+// does is what `rules` writes, for all numbers that the slices can hold.
+use line::point_at;
+use line::step;
+use reach::far_along;
+use reach::far_from;
+use reach::within;
+use row::frame_good;
+use row::leaf_good;
+use row::row_at;
+use row::split_of;
+use row::splits_inside;
 use rules::Node;
 use rules::Point;
 use rules::Row;
 ghost use mathlib.Core.Path.{_≡_};
 ghost use Prim.Native.Nat.{ℕ, _<_};
 ghost use lib.IntN.{ℤ, _*ℤ_};
-ghost use Rattle.visits.specs.Small.{OnSheet};
-ghost use Rattle.reach.specs.Bounds.{ReachFits, HoldsStart};
-ghost use Rattle.near_visit.specs.Said.{leafSeen, innerSeen, SplitsBetween, Asks, Visits};
+ghost use Rattle.rules.specs.Sheet.{most};
+ghost use Rattle.limits.specs.Small.{OnSheet};
+ghost use Rattle.visits.specs.Nodes.{HoldsStart};
+ghost use Rattle.reach.specs.Bounds.{ReachFits};
+ghost use Rattle.near_visit.specs.Steps.{leafStep, innerStep, SplitsInside, Asks, Visits};
 
-// What one visit does: a bad row, a yes, nothing near, or two halves.
-pub enum Visited {
+// What one visit does: refused by 10, a yes, nothing near, or the halves at a split.
+pub enum Step {
     Bad,
     Finish,
     Pass,
     Halve(usize),
 }
 
-// A visit of a leaf whose frame is good: its points differ, so its direction is its step.
-fn visit_leaf(r: Row, a: Point, b: Point, z: Point, reach: i64) -> Visited
+// A leaf whose frame is good: its points differ, so it heads along its step.
+fn leaf_step(r: Row, a: Point, b: Point, z: Point, reach: i64) -> Step
     requires { ⌜ HoldsStart r × OnSheet a × OnSheet b × OnSheet z × ReachFits reach ⌝ }
-    ensures { λ v. ⌜ ((D : ℤ) → reach ≡ D *ℤ D → v ≡ leafSeen r a b z D) ⌝ }
-    ensures { λ v. ⌜ ((first last : ℕ) → SplitsBetween first last v) ⌝ }
+    ensures { λ s. ⌜ ((D : ℤ) → reach ≡ D *ℤ D → s ≡ leafStep r a b z D) ⌝ }
+    ensures { λ s. ⌜ ((first last : ℕ) → SplitsInside first last s) ⌝ }
 {
-    if !row::leaf_good(r, a, b) {
-        return Visited::Bad;
+    if !leaf_good(r, a, b) {
+        return Step::Bad;
     }
-    if reach::far_along(r, a, line::step(a, b), z, reach) {
-        return Visited::Pass;
+    if far_along(r, a, step(a, b), z, reach) {
+        return Step::Pass;
     }
-    if reach::within(z, a, b, reach) {
-        return Visited::Finish;
+    if within(z, a, b, reach) {
+        return Step::Finish;
     }
-    Visited::Pass
+    Step::Pass
 }
 
-// A visit of a longer node whose frame is good.
-fn visit_inner(
-    r: Row,
-    first: usize,
-    last: usize,
-    a: Point,
-    b: Point,
-    z: Point,
-    reach: i64,
-) -> Visited
-    requires { ⌜ (first < last) × (last < 4097) × HoldsStart r × OnSheet a × OnSheet b × OnSheet z × ReachFits reach ⌝ }
-    ensures { λ v. ⌜ ((D : ℤ) → reach ≡ D *ℤ D → v ≡ innerSeen r first last a b z D) ⌝ }
-    ensures { λ v. ⌜ SplitsBetween first last v ⌝ }
+// A node of more segments whose frame is good.
+fn inner_step(r: Row, first: usize, last: usize, a: Point, b: Point, z: Point, reach: i64) -> Step
+    requires { ⌜ (first < last) × (last < most) ⌝ }
+    requires { ⌜ HoldsStart r × OnSheet a × OnSheet b × OnSheet z × ReachFits reach ⌝ }
+    ensures { λ s. ⌜ ((D : ℤ) → reach ≡ D *ℤ D → s ≡ innerStep r first last a b z D) ⌝ }
+    ensures { λ s. ⌜ SplitsInside first last s ⌝ }
 {
-    if !row::splits_inside(r, first, last) {
-        return Visited::Bad;
+    if !splits_inside(r, first, last) {
+        return Step::Bad;
     }
-    if reach::far_from(r, a, b, z, reach) {
-        return Visited::Pass;
+    if far_from(r, a, b, z, reach) {
+        return Step::Pass;
     }
-    Visited::Halve(row::split_of(r))
+    Step::Halve(split_of(r))
 }
 
 // A visit of a node whose ends are known to be on the sheet.
-pub fn visit(points: &[i32], table: &[i32], node: Node, z: Point, reach: i64) -> Visited
+pub fn visit(points: &[i32], table: &[i32], node: Node, z: Point, reach: i64) -> Step
     requires { ⌜ Asks (now points) (now table) node z reach ⌝ }
-    ensures { λ r. ⌜ Visits (now (points .entry)) (now (table .entry)) node z reach r ⌝ }
-    ensures { λ r. ⌜ SplitsBetween (node .first) (node .last) r ⌝ }
+    ensures { λ s. ⌜ Visits (now (points .entry)) (now (table .entry)) node z reach s ⌝ }
 {
     let first = node.first;
     let last = node.last;
-    let row = row::row_at(table, node.row);
-    let a = line::point_at(points, first);
-    let b = line::point_at(points, last);
-    if !row::frame_good(row, first, last) {
-        return Visited::Bad;
+    let r = row_at(table, node.row);
+    let a = point_at(points, first);
+    let b = point_at(points, last);
+    if !frame_good(r, first, last) {
+        return Step::Bad;
     }
     if last <= first + 1 {
-        return visit_leaf(row, a, b, z, reach);
+        return leaf_step(r, a, b, z, reach);
     }
-    visit_inner(row, first, last, a, b, z, reach)
+    inner_step(r, first, last, a, b, z, reach)
 }

@@ -11,15 +11,16 @@ use Rattle.rules.specs.Sheet.{segmentsOf}
 use Rattle.rules.specs.Rows.{endsGood}
 use Rattle.rules.specs.Walk.{next}
 use Rattle.rules.specs.Questions.{root, nearVisit, nearWalk}
-use Rattle.line.specs.Fine.{LengthsFine}
-use Rattle.ends.specs.Came.{badRow, due, cameTo}
-use Rattle.ends.proofs.Dues.{reads-bad-due}
-use Rattle.near_visit.proofs.Visits.{ends-bad}
+use Rattle.visits.specs.Fine.{LengthsFine}
+use Rattle.ending.specs.Ending.{badRow, due, walkedIn}
+use Rattle.ending.proofs.Dues.{reads-bad-due}
+use Rattle.row.proofs.Parts.{ends-off}
+use Rattle.near_visit.proofs.Visits.{row-bad}
 
 pub root-bad : (l m : Line) {ps t : List ℤ} (z : Point) (D : ℤ) (y : Tally)
     → LengthsFine ps t → endsGood ps 0 (segmentsOf ps) ≡ false
-    → cameTo tt tt l m (y .allowance) (due (next y) badRow) ≡ nearWalk l ps t z D y
+    → walkedIn tt tt l m (y .allowance) (due (next y) badRow) ≡ nearWalk l ps t z D y
 root-bad l m {ps} {t} z D y h e =
-    let bad = ends-bad l ps t z D (root ps) e in
+    let bad = row-bad ps t z (root ps) l D (ends-off ps _ 0 (segmentsOf ps) e) in
     reads-bad-due tt tt l m (nearVisit l ps t z D) (root ps) tt y (segmentsOf ps) (omega (arith, h .some-points))
     0 (omega arith) bad

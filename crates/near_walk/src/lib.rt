@@ -1,16 +1,28 @@
-// NEAR's walk of a line whose lengths are checked, one visit at a time. It ends as the written walk of `rules`, after as
-// many visits, for all numbers that the slices can hold.
-use near_visit::Visited;
+// NEAR's walk of a line whose lengths are checked, one visit at a time. It ends as the written walk of `rules`, after
+// as many visits, for all numbers that the slices can hold.
+use ending::ENDED;
+use ending::EVEN;
+use ending::SPENT;
+use ending::bad_row;
+use ending::bad_row_due;
+use ending::pack;
+use ending::stopped;
+use ending::tally_in;
+use line::on_sheet_at;
+use near_visit::Step;
+use near_visit::visit;
+use row::ends_on_sheet;
 use rules::Next;
 use rules::Node;
 use rules::Point;
 use rules::Tally;
-ghost use Rattle.whole.specs.Range.{Abs≤};
+ghost use Rattle.integers.specs.Range.{Abs≤};
 ghost use Rattle.rules.specs.Sheet.{farthest};
-ghost use Rattle.visits.specs.Small.{OnSheet};
-ghost use Rattle.line.specs.Fine.{LengthsFine};
-ghost use Rattle.near_visit.specs.Said.{Asks};
-ghost use Rattle.near_walk.specs.Said.{nodeAt, AsksLine, Walks, Comes};
+ghost use Rattle.limits.specs.Small.{OnSheet};
+ghost use Rattle.visits.specs.Fine.{LengthsFine};
+ghost use Rattle.row.specs.Stands.{nodeAt};
+ghost use Rattle.near_visit.specs.Steps.{Asks};
+ghost use Rattle.near_walk.specs.Walks.{AsksLine, Walks, Comes};
 
 // The walk from a node on, left child first; a yes ends it. Each visit takes the tally and gives the next one back. A
 // split off the sheet ends its children, so every node that is visited has its ends on the sheet.
@@ -29,26 +41,30 @@ fn walk(
     ensures { λ r. ⌜ Walks (now (now (points .entry))) (now (now (table .entry))) row first last x y reach tally r ⌝ }
 {
     let Next::Left(counted) = tally.visit() else {
-        return ends::came(0, ends::SPENT);
+        return pack(0, SPENT);
     };
-    let made = counted.visits;
-    let node = Node { row, first, last };
-    match near_visit::visit(*points, *table, node, Point { x, y }, reach) {
-        Visited::Bad => ends::bad_row(made, row),
-        Visited::Finish => ends::came(made, ends::ENDED),
-        Visited::Pass => ends::came(made, ends::EVEN),
-        Visited::Halve(mid) => {
-            let low = row + 1;
-            if !line::on_sheet(line::point_at(*points, mid)) {
-                return ends::bad_row_due(counted, low);
+    match visit(
+        *points,
+        *table,
+        Node { row, first, last },
+        Point { x, y },
+        reach,
+    ) {
+        Step::Bad => bad_row(counted.visits, row),
+        Step::Finish => pack(counted.visits, ENDED),
+        Step::Pass => pack(counted.visits, EVEN),
+        Step::Halve(split) => {
+            let next_row = row + 1;
+            if !on_sheet_at(*points, split) {
+                return bad_row_due(counted, next_row);
             }
-            let high = row + 2 * (mid - first);
-            let left = walk(points, table, low, first, mid, x, y, reach, counted);
-            if ends::stopped(left) {
+            let left = walk(points, table, next_row, first, split, x, y, reach, counted);
+            if stopped(left) {
                 return left;
             }
-            let rest = ends::tally_in(counted.allowance, left);
-            walk(points, table, high, mid, last, x, y, reach, rest)
+            let right = row + 2 * (split - first);
+            let next = tally_in(counted.allowance, left);
+            walk(points, table, right, split, last, x, y, reach, next)
         }
     }
 }
@@ -67,8 +83,8 @@ pub fn ask_any(points: &&[i32], table: &&[i32], z: Point, d: i64, tally: Tally) 
     requires { ⌜ LengthsFine (now (now points)) (now (now table)) × OnSheet z × Abs≤ farthest d ⌝ }
     ensures { λ r. ⌜ Comes (now (now (points .entry))) (now (now (table .entry))) z d tally r ⌝ }
 {
-    if !row::ends_on_sheet(*points) {
-        return ends::bad_row_due(tally, 0);
+    if !ends_on_sheet(*points) {
+        return bad_row_due(tally, 0);
     }
     ask(points, table, z, d, tally)
 }

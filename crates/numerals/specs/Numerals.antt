@@ -43,20 +43,17 @@ numeral f =
     (when (goodDigits (tailOf f) && not (eqb (getD f 1 0) 48)) (negℤ (pos (valueFrom 0 (tailOf f)))))
     (when (goodDigits f) (pos (valueFrom 0 f)))
 
+abbrev pub inRange : ℤ → ℤ → ℤ → Bool
+inRange lo hi z = leZ lo z && leZ z hi
+
 -- fitting i32
 abbrev pub fitsI32 : ℤ → Bool
-fitsI32 z = leZ (negℤ (pos (2 ^ 31))) z && leZ z (pos (2 ^ 31 - 1))
+fitsI32 = inRange (negℤ (pos (2 ^ 31))) (pos (2 ^ 31 - 1))
 
 -- the allowance, fitting u32
 abbrev pub fitsU32 : ℤ → Bool
-fitsU32 z = leZ (pos 0) z && leZ z (pos (2 ^ 32 - 1))
+fitsU32 = inRange (pos 0) (pos (2 ^ 32 - 1))
 
 abbrev pub onlyIf : (ℤ → Bool) → Option ℤ → Option ℤ
 onlyIf p none = none
 onlyIf p (some z) = when (p z) z
-
-abbrev pub coordinate : List ℕ → Option ℤ
-coordinate f = onlyIf fitsI32 (numeral f)
-
-abbrev pub allowance : List ℕ → Option ℤ
-allowance f = onlyIf fitsU32 (numeral f)

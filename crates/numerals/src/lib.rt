@@ -1,12 +1,11 @@
 // How one field is read as a number: optional minus, 1 to 10 digits, no leading zero, no "-0". `within` holds for every
 // list of bytes; the functions below it say their results by the definitions of `specs/`.
 ghost use mathlib.Core.Path.{_≡_};
-ghost use mathlib.Core.Bool.{true, _&&_};
+ghost use mathlib.Core.Bool.{true};
 ghost use Prim.Native.Nat.{_<_};
 ghost use lib.IntN.{negℤ, pos};
-ghost use lib.Signed.{leZ};
-ghost use Rattle.numerals.specs.Numerals.{isDigit, allDigits, valueFrom, goodDigits, numeral, onlyIf};
-ghost use Rattle.numerals.specs.Said.{numberSaid, negated};
+ghost use Rattle.numerals.specs.Numerals.{isDigit, allDigits, valueFrom, goodDigits, numeral, inRange, onlyIf};
+ghost use Rattle.numerals.specs.Read.{numberRead, negated};
 
 // A field read as a number.
 pub enum Number {
@@ -81,7 +80,7 @@ fn minus(v: u64) -> i64
 
 // What follows a minus.
 fn negative(f: &[u8]) -> Number
-    ensures { λ r. ⌜ numberSaid r ≡ negated (now (f .entry)) ⌝ }
+    ensures { λ r. ⌜ numberRead r ≡ negated (now (f .entry)) ⌝ }
 {
     if !good_digits(f) {
         return Number::Nothing;
@@ -93,7 +92,7 @@ fn negative(f: &[u8]) -> Number
 }
 
 fn numeral(f: &[u8]) -> Number
-    ensures { λ r. ⌜ numberSaid r ≡ numeral (now (f .entry)) ⌝ }
+    ensures { λ r. ⌜ numberRead r ≡ numeral (now (f .entry)) ⌝ }
 {
     if f.len() < 1 {
         return Number::Nothing;
@@ -107,20 +106,20 @@ fn numeral(f: &[u8]) -> Number
     Number::Whole(plus(value(f)))
 }
 
-fn between(lo: i64, z: i64, hi: i64) -> bool
-    ensures { λ r. ⌜ r ≡ (leZ lo z && leZ z hi) ⌝ }
+fn in_range(lo: i64, z: i64, hi: i64) -> bool
+    ensures { λ r. ⌜ r ≡ inRange lo hi z ⌝ }
 {
     lo <= z && z <= hi
 }
 
 // A number from lo to hi.
 pub fn within(f: &[u8], lo: i64, hi: i64) -> Number
-    ensures { λ r. ⌜ numberSaid r ≡ onlyIf (λ z. leZ lo z && leZ z hi) (numeral (now (f .entry))) ⌝ }
+    ensures { λ r. ⌜ numberRead r ≡ onlyIf (inRange lo hi) (numeral (now (f .entry))) ⌝ }
 {
     let Number::Whole(z) = numeral(f) else {
         return Number::Nothing;
     };
-    if !between(lo, z, hi) {
+    if !in_range(lo, z, hi) {
         return Number::Nothing;
     }
     Number::Whole(z)

@@ -1,6 +1,6 @@
--- Decimal digits: 20 of them hold every number of 64 bits, a number's digits are those of its tenth and its last, and they
--- read back as the number.
-use mathlib.Core.Path.{_≡_, refl, sym, _∙_, ap, subst}
+-- Decimal digits: 20 of them hold every number of 64 bits, a number's digits are those of its tenth and its last, and
+-- they read back as the number.
+use mathlib.Core.Path.{_≡_, refl, _∙_, ap}
 use mathlib.Core.Bool.{Bool, true, false, cond}
 use mathlib.Core.List.{List, [], _∷_, _++_}
 use Prim.Native.Nat.{ℕ, zero, suc, _+_, _*_, _-_, _/_, _%_, _^_, _≤_, _<_}
@@ -31,24 +31,23 @@ tenth-below f {n} h = omega (arith, pow-suc 10 (suc f))
 by-digits : (P : List ℕ → ℕ → Type 0) → ((n : ℕ) → n < 10 → P ((48 + n) ∷ []) n) →
     ((bytes : List ℕ) (n : ℕ) → 10 ≤ n → P bytes (n / 10) → P (bytes ++ (48 + n % 10) ∷ []) n) →
     (f n : ℕ) → n < 10 ^ suc f → P (digitsOf f n) n
-by-digits P one more zero n h = subst (λ (bytes : List ℕ). P bytes n) (sym (digits-one zero n h)) (one n h)
+by-digits P one more zero n h = rw (digits-one zero n h) (one n h)
 by-digits P one more (suc f) n h = go (by-digits P one more f (n / 10) (tenth-below f h)) (ltb n 10) refl
   where
     go : P (digitsOf f (n / 10)) (n / 10) → (b : Bool) → ltb n 10 ≡ b → P (digitsOf (suc f) n) n
-    go p true e = subst (λ (bytes : List ℕ). P bytes n) (sym (digits-one (suc f) n (ltb-true n 10 e))) (one n (ltb-true n 10 e))
-    go p false e =
-        subst (λ (bytes : List ℕ). P bytes n) (sym (digits-more f n (ltb-false n 10 e)))
-        (more (digitsOf f (n / 10)) n (ltb-false n 10 e) p)
+    go p true e = let h = ltb-true n 10 e in rw (digits-one (suc f) n h) (one n h)
+    go p false e = let h = ltb-false n 10 e in rw (digits-more f n h) (more (digitsOf f (n / 10)) n h p)
 
 -- With enough digits, how many are allowed does not matter.
+abbrev Enough : List ℕ → ℕ → Type 0
+Enough bytes m = (g : ℕ) → m < 10 ^ suc g → digitsOf g m ≡ bytes
+
 enough-digits : (f g n : ℕ) → n < 10 ^ suc f → n < 10 ^ suc g → digitsOf g n ≡ digitsOf f n
-enough-digits f g n h k = by-digits (λ bytes m. (g : ℕ) → m < 10 ^ suc g → digitsOf g m ≡ bytes) (λ m l g k. digits-one g m l) more f n h g k
+enough-digits f g n h k = by-digits Enough (λ m l g k. digits-one g m l) more f n h g k
   where
-    more : (bytes : List ℕ) (m : ℕ) → 10 ≤ m → ((g : ℕ) → m / 10 < 10 ^ suc g → digitsOf g (m / 10) ≡ bytes) → (g : ℕ) →
-        m < 10 ^ suc g → digitsOf g m ≡ bytes ++ (48 + m % 10) ∷ []
+    more : (bytes : List ℕ) (m : ℕ) → 10 ≤ m → Enough bytes (m / 10) → Enough (bytes ++ (48 + m % 10) ∷ []) m
     more bytes m l same zero k = absurd (omega arith)
-    more bytes m l same (suc g) k =
-        digits-more g m l ∙ ap (λ (front : List ℕ). front ++ (48 + m % 10) ∷ []) (same g (tenth-below g k))
+    more bytes m l same (suc g) k = rw (digits-more g m l, same g (tenth-below g k))
 
 -- ---------------- numbers of 64 bits
 twenty-hold : {n : ℕ} → n < 2 ^ 64 → n < 10 ^ 20
@@ -59,8 +58,7 @@ decimal-one = digits-one 19
 
 pub decimal-more : (n : ℕ) → 10 ≤ n → n < 2 ^ 64 → decimal n ≡ decimal (n / 10) ++ (48 + n % 10) ∷ []
 decimal-more n h k =
-    digits-more 18 n h
-    ∙ ap (λ (front : List ℕ). front ++ (48 + n % 10) ∷ []) (enough-digits 19 18 (n / 10) (omega arith) (omega arith))
+    digits-more 18 n h ∙ rw (enough-digits 19 18 (n / 10) (omega arith) (omega arith))
 
 -- The digits of a number are at most 20.
 length-digits : (f n : ℕ) → length (digitsOf f n) ≤ suc f
@@ -68,7 +66,8 @@ unfolding digitsOf
 length-digits zero n = omega arith
 length-digits (suc f) n = go (ltb n 10) (length-digits f (n / 10))
   where
-    go : (b : Bool) → length (digitsOf f (n / 10)) ≤ suc f → length (cond b ((48 + n) ∷ []) (digitsOf f (n / 10) ++ (48 + n % 10) ∷ [])) ≤ suc (suc f)
+    go : (b : Bool) → length (digitsOf f (n / 10)) ≤ suc f →
+        length (cond b ((48 + n) ∷ []) (digitsOf f (n / 10) ++ (48 + n % 10) ∷ [])) ≤ suc (suc f)
     go true h = omega arith
     go false h = simp length-append (omega arith)
 
@@ -91,7 +90,8 @@ digits-behind : (xs : List ℕ) {b : ℕ} → Digits xs → 48 ≤ b → b ≤ 5
 digits-behind [] d h k = (h, k, tt)
 digits-behind (x ∷ xs) d h k = (d .0, d .1, digits-behind xs (d .2) h k)
 
-front-behind : (xs : List ℕ) (b : ℕ) → 0 < valueFrom 0 xs → (1 < length xs → 49 ≤ getD xs 0 0) → 49 ≤ getD (xs ++ b ∷ []) 0 0
+front-behind : (xs : List ℕ) (b : ℕ) → 0 < valueFrom 0 xs → (1 < length xs → 49 ≤ getD xs 0 0) →
+    49 ≤ getD (xs ++ b ∷ []) 0 0
 unfolding valueFrom
 front-behind [] b h k = absurd (omega arith)
 front-behind (d ∷ []) b h k = omega arith

@@ -2,7 +2,9 @@
 use Prim.Native.Nat.{ℕ, _≤_}
 use native.Mathlib.Omega.{arith}
 use lib.ListN.{length, length-append}
-use Rattle.rules.specs.Reply.{Word, YES, NO, INSIDE, OUTSIDE, ON, UNDECIDED, REFUSED, Reply}
+use Rattle.rules.specs.declared.Word.{Word}
+use Rattle.rules.specs.declared.Word.the-variants.{YES, NO, INSIDE, OUTSIDE, ON, UNDECIDED, REFUSED}
+use Rattle.rules.specs.declared.Reply.{Reply}
 use Rattle.print.specs.Printed.{wordBytes, printed, widest}
 use Rattle.print.proofs.Digits.{length-decimal}
 
@@ -21,4 +23,11 @@ pub printed-fits : (ordinal : ℕ) (r : Reply) → length (printed ordinal r) �
 unfolding printed
 printed-fits ordinal r =
     simp length-append
-    (omega (arith, length-decimal ordinal, length-word (r .word), length-decimal (r .visits), length-decimal (r .number), length-decimal (r .place)))
+    (omega (
+      arith,
+      length-decimal ordinal,
+      length-word (r .word),
+      length-decimal (r .visits),
+      length-decimal (r .number),
+      length-decimal (r .place),
+    ))

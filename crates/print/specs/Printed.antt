@@ -3,7 +3,9 @@ use mathlib.Core.List.{List, [], _∷_, _++_}
 use Prim.Native.Nat.{ℕ}
 use Rattle.rules.specs.declared.Line.{Line}
 use Rattle.rules.specs.declared.Line.the-variants.{NoLine, LineA, LineB}
-use Rattle.rules.specs.Reply.{Word, YES, NO, INSIDE, OUTSIDE, ON, UNDECIDED, REFUSED, Reply}
+use Rattle.rules.specs.declared.Word.{Word}
+use Rattle.rules.specs.declared.Word.the-variants.{YES, NO, INSIDE, OUTSIDE, ON, UNDECIDED, REFUSED}
+use Rattle.rules.specs.declared.Reply.{Reply}
 use Rattle.print.specs.Decimal.{decimal}
 
 -- the words in bytes
@@ -23,8 +25,8 @@ lineByte LineB = 66
 
 unfoldable pub printed : ℕ → Reply → List ℕ
 printed ordinal r =
-    decimal ordinal ++ 9 ∷ wordBytes (r .word) ++ 9 ∷ decimal (r .visits) ++ 9 ∷ decimal (r .number) ++ 9 ∷ lineByte (r .line)
-    ∷ 9 ∷ decimal (r .place) ++ 10 ∷ []
+    decimal ordinal ++ 9 ∷ wordBytes (r .word) ++ 9 ∷ decimal (r .visits) ++ 9 ∷ decimal (r .number)
+    ++ 9 ∷ lineByte (r .line) ∷ [] ++ 9 ∷ decimal (r .place) ++ 10 ∷ []
 
 -- no printed line is longer: 20 + 1 + 9 + 1 + 20 + 1 + 20 + 1 + 1 + 1 + 20 + 1
 abbrev pub widest : ℕ

@@ -1,108 +1,15 @@
-// How an answer of the question program is printed: the values of one line, and the line in bytes. Every writer says the whole
-// slice that it leaves: the bytes written, and all others as they were.
-use rules::Agreement;
-use rules::Answer;
+// How a reply of the question program is printed: one line in bytes. Every writer says the whole slice that it leaves:
+// the bytes written, and all others as they were.
 use rules::Line;
-use rules::Refusal;
-use rules::Side;
+use rules::Reply;
+use rules::Word;
 ghost use mathlib.Core.Path.{_≡_};
 ghost use mathlib.Core.List.{[], _∷_};
 ghost use Prim.Native.Nat.{_+_, _<_, _≤_};
 ghost use lib.ListN.{length};
-ghost use Rattle.rules.specs.Reply.{says, refuses, answerReply, sideReply, agreementReply};
 ghost use Rattle.print.specs.Decimal.{decimal};
 ghost use Rattle.print.specs.Printed.{wordBytes, lineByte, printed, widest};
 ghost use Rattle.print.specs.Put.{Put};
-ghost use Rattle.print.specs.Said.{saidWord, saidReply};
-
-// The word of a printed line.
-pub enum Word {
-    Yes,
-    No,
-    Inside,
-    Outside,
-    On,
-    Undecided,
-    Refused,
-}
-
-// What a printed line says behind its ordinal: word, visits, refusal number or 0, line at fault or none, place or 0.
-pub struct Said {
-    pub word: Word,
-    pub visits: u32,
-    pub number: u32,
-    pub line: Line,
-    pub place: usize,
-}
-
-fn says(word: Word, visits: u32) -> Said
-    ensures { λ r. ⌜ saidReply r ≡ says (saidWord word) visits ⌝ }
-{
-    Said {
-        word,
-        visits,
-        number: 0,
-        line: Line::NoLine,
-        place: 0,
-    }
-}
-
-pub fn of_refusal(refusal: Refusal) -> Said
-    ensures { λ r. ⌜ saidReply r ≡ refuses refusal ⌝ }
-{
-    let line = refusal.line;
-    Said {
-        word: Word::Refused,
-        visits: refusal.visits,
-        number: refusal.number,
-        line,
-        place: refusal.place,
-    }
-}
-
-pub fn of_answer(answer: Answer) -> Said
-    ensures { λ r. ⌜ saidReply r ≡ answerReply answer ⌝ }
-{
-    match answer {
-        Answer::Yes(visits) => says(Word::Yes, visits),
-        Answer::No(visits) => says(Word::No, visits),
-        Answer::Undecided(visits) => says(Word::Undecided, visits),
-        Answer::Refused(refusal) => of_refusal(refusal),
-    }
-}
-
-pub fn of_side(side: Side) -> Said
-    ensures { λ r. ⌜ saidReply r ≡ sideReply side ⌝ }
-{
-    match side {
-        Side::Inside(visits) => says(Word::Inside, visits),
-        Side::Outside(visits) => says(Word::Outside, visits),
-        Side::OnEdge(visits) => says(Word::On, visits),
-        Side::Undecided(visits) => says(Word::Undecided, visits),
-        Side::Refused(refusal) => of_refusal(refusal),
-    }
-}
-
-pub fn of_agreement(agreement: Agreement) -> Said
-    ensures { λ r. ⌜ saidReply r ≡ agreementReply agreement ⌝ }
-{
-    match agreement {
-        Agreement::Yes(visits) => says(Word::Yes, visits),
-        Agreement::No {
-            line,
-            point,
-            visits,
-        } => Said {
-            word: Word::No,
-            visits,
-            number: 0,
-            line,
-            place: point,
-        },
-        Agreement::Undecided(visits) => says(Word::Undecided, visits),
-        Agreement::Refused(refusal) => of_refusal(refusal),
-    }
-}
 
 // ---------------- bytes into a slice, from a place on; the answer is the next place
 
@@ -150,16 +57,16 @@ fn put_number(out: &mut [u8], at: usize, n: u64) -> usize
 
 fn put_word(out: &mut [u8], at: usize, word: Word) -> usize
     requires { ⌜ at + 10 ≤ length (now out) ⌝ }
-    ensures { λ r. ⌜ Put (now (out .entry)) at (9 ∷ wordBytes (saidWord word)) (now (out .exit)) r ⌝ }
+    ensures { λ r. ⌜ Put (now (out .entry)) at (9 ∷ wordBytes word) (now (out .exit)) r ⌝ }
 {
     match word {
-        Word::Yes => put_bytes(out, at, b"\tYES"),
-        Word::No => put_bytes(out, at, b"\tNO"),
-        Word::Inside => put_bytes(out, at, b"\tINSIDE"),
-        Word::Outside => put_bytes(out, at, b"\tOUTSIDE"),
-        Word::On => put_bytes(out, at, b"\tON"),
-        Word::Undecided => put_bytes(out, at, b"\tUNDECIDED"),
-        Word::Refused => put_bytes(out, at, b"\tREFUSED"),
+        Word::YES => put_bytes(out, at, b"\tYES"),
+        Word::NO => put_bytes(out, at, b"\tNO"),
+        Word::INSIDE => put_bytes(out, at, b"\tINSIDE"),
+        Word::OUTSIDE => put_bytes(out, at, b"\tOUTSIDE"),
+        Word::ON => put_bytes(out, at, b"\tON"),
+        Word::UNDECIDED => put_bytes(out, at, b"\tUNDECIDED"),
+        Word::REFUSED => put_bytes(out, at, b"\tREFUSED"),
     }
 }
 
@@ -175,9 +82,9 @@ fn put_letter(out: &mut [u8], at: usize, line: Line) -> usize
 }
 
 // One whole line, with its line feed.
-pub fn put_line(out: &mut [u8], at: usize, ordinal: u64, said: Said) -> usize
+pub fn put_line(out: &mut [u8], at: usize, ordinal: u64, said: Reply) -> usize
     requires { ⌜ at + widest ≤ length (now out) ⌝ }
-    ensures { λ r. ⌜ Put (now (out .entry)) at (printed ordinal (saidReply said)) (now (out .exit)) r ⌝ }
+    ensures { λ r. ⌜ Put (now (out .entry)) at (printed ordinal said) (now (out .exit)) r ⌝ }
 {
     let word = said.word;
     let line = said.line;

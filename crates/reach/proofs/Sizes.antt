@@ -5,9 +5,9 @@ use lib.Dec.{T}
 use lib.IntN.{ℤ, pos, negℤ, _-ℤ_, _*ℤ_}
 use lib.Signed.{leZ, ltZ, _≤ℤ_, _<ℤ_, leZ-yes, ltZ-yes}
 use mir.Facts.{and-yes}
-use Rattle.whole.specs.Laws.{zarith, cond-ind, PN-add, P-neg, N-neg}
-use Rattle.whole.specs.Poly.{_:*_}
-use Rattle.whole.specs.Range.{Abs≤, abs-of, abs-lo, abs-hi, nil, _&_, within}
+use Rattle.integers.specs.Laws.{zarith, cond-ind, PN-add, P-neg, N-neg}
+use Rattle.integers.specs.Poly.{_:*_}
+use Rattle.integers.specs.Range.{Abs≤, abs-of, abs-lo, abs-hi, nil, _&_, within}
 use Rattle.rules.specs.Sheet.{farthest, distanceFits}
 use Rattle.rules.specs.Questions.{shortfall}
 
@@ -39,4 +39,5 @@ pub shortfall-wide : {B : ℕ} {lo hi v : ℤ} → Abs≤ B v → lo ≤ℤ pos 
 unfolding shortfall
 shortfall-wide {B} {lo} {hi} {v} h low high =
     cond-ind (ltZ v lo) (lo -ℤ v) (cond (ltZ hi v) (v -ℤ hi) (pos 0)) (Abs≤ B) (λ t. below-short h low (ltZ-yes t))
-    (λ t. cond-ind (ltZ hi v) (v -ℤ hi) (pos 0) (Abs≤ B) (λ t. above-short h high (ltZ-yes t)) (λ t. record { abs = omega zarith }))
+    (λ t. cond-ind (ltZ hi v) (v -ℤ hi) (pos 0) (Abs≤ B) (λ t. above-short h high (ltZ-yes t))
+    (λ t. record { abs = omega zarith }))

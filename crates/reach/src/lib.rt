@@ -1,23 +1,25 @@
 // How far a point is from a strip and from a segment, by squared comparisons that are exact in 64 bits. The reach is
 // the distance squared. Every function says its result by a definition of `rules`, for all points on the sheet.
+use limits::FARTHEST;
 use rules::Point;
 use rules::Row;
 ghost use mathlib.Core.Path.{_≡_};
 ghost use lib.IntN.{ℤ, pos, _+ℤ_, _*ℤ_};
 ghost use lib.Signed.{ltZ, _≤ℤ_};
-ghost use Rattle.whole.specs.Range.{Abs≤};
+ghost use Rattle.integers.specs.Range.{Abs≤};
 ghost use Rattle.rules.specs.Plane.{step, direction, size²};
 ghost use Rattle.rules.specs.Plain.{within};
 ghost use Rattle.rules.specs.Sheet.{distanceFits};
 ghost use Rattle.rules.specs.Questions.{shortfall, farFrom};
-ghost use Rattle.visits.specs.Small.{OnSheet, Small, widest};
-ghost use Rattle.reach.specs.Bounds.{ReachFits, HoldsStart};
+ghost use Rattle.limits.specs.Small.{OnSheet, Small, widest};
+ghost use Rattle.visits.specs.Nodes.{HoldsStart};
+ghost use Rattle.reach.specs.Bounds.{ReachFits};
 
 // Refusal 7.
 pub fn distance_fits(d: i64) -> bool
     ensures { λ r. ⌜ r ≡ distanceFits d ⌝ }
 {
-    0 <= d && d <= 32767
+    0 <= d && d <= FARTHEST
 }
 
 // Whether g^2 + h^2 is above reach*v, the reach being the distance squared: every squared comparison is this one.

@@ -1,5 +1,5 @@
--- A table with room refuses what the described table refuses, and so what a build says is what `withTable` goes by; and what
--- readying a line leaves in its table.
+-- A table with room refuses what the described table refuses, and so what a build says is what `withTable` goes by;
+-- and what readying a line leaves in its table.
 use mathlib.Core.Path.{_≡_, refl, sym, ap, _∙_, subst}
 use mathlib.Core.Bool.{Bool, true, false, cond, false≢true}
 use mathlib.Core.List.{List, [], _∷_, _++_}
@@ -15,24 +15,27 @@ use Rattle.rules.specs.declared.Line.{Line}
 use Rattle.rules.specs.declared.Line.the-variants.{LineA}
 use Rattle.rules.specs.declared.Refusal.{Refusal}
 use Rattle.rules.specs.Sheet.{pointsOf, fewest}
-use Rattle.rules.specs.Reply.{Reply, firstRefusal}
+use Rattle.rules.specs.declared.Reply.{Reply}
+use Rattle.rules.specs.Reply.{firstRefusal}
 use Rattle.rules.specs.Rows.{pointChecks}
 use Rattle.rules.specs.Build.{sheetCheck, neighbourCheck, buildRefusal, tableOf, builtTable}
-use Rattle.built.specs.Accepted.{rowNumbers}
-use Rattle.built.proofs.Rows.{≤-or->}
-use Rattle.built.proofs.Refusals.{accepted}
-use Rattle.built.proofs.Table.{table-length, built-rows, built-length}
+use Rattle.table_truth.specs.Accepted.{rowNumbers}
+use Rattle.table_truth.proofs.Rows.{≤-or->}
+use Rattle.table_truth.proofs.Refusals.{accepted}
+use Rattle.table_truth.proofs.Table.{table-length, built-rows, built-length}
 use Rattle.desk.specs.declared.Held.{Held}
 use Rattle.desk.specs.Desk.{Store, refusedAt, onBuild, withTable}
 use Rattle.desk.specs.Kept.{storeIn, Stored, tableRoom}
 use Rattle.ready.specs.Readied.{Rows}
-use Rattle.ready.specs.Left.{clear, isReady, tableAfter, secondAfter}
+use Rattle.ready.specs.Left.{clear, isReady, tableAfter}
 
 -- ---------------- a refusal does not depend on a table that is long enough
 
 abbrev refusalIf : List ℤ → Bool → Option Refusal
 refusalIf ps short =
-    firstRefusal (pointChecks LineA ps ++ sheetCheck ps ∷ neighbourCheck ps ∷ record { holds = short; number = 6; line = LineA; place = 0 } ∷ [])
+    firstRefusal
+    (pointChecks LineA ps ++ sheetCheck ps ∷ neighbourCheck ps
+    ∷ record { holds = short; number = 6; line = LineA; place = 0 } ∷ [])
 
 room-refusal : (ps t : List ℤ) → rowNumbers ps ≤ length t → buildRefusal ps t ≡ refusalIf ps false
 unfolding buildRefusal
@@ -48,20 +51,22 @@ same-refusal ps t h = room-refusal ps t h ∙ sym (room-refusal ps (tableOf ps) 
 -- ---------------- the table of a store
 
 -- the rows of a store's points fit a table for 257 points
-pub rows-fit : (h : Held) (numbers t : List ℤ) → Stored h numbers → length t ≡ tableRoom → rowNumbers (storeIn h numbers .points) ≤ length t
+pub rows-fit : (h : Held) (numbers t : List ℤ) → Stored h numbers → length t ≡ tableRoom
+    → rowNumbers (storeIn h numbers .points) ≤ length t
 rows-fit h numbers t s e =
     omega (arith, length-take-le (2 * h .count) numbers (omega (arith, s .whole, s .counted)), s .counted)
 
 -- where the build refuses nothing, the rows stand in the table
 rows-stand : (ps t : List ℤ) → buildRefusal ps t ≡ none → Rows ps (builtTable ps t)
 rows-stand ps t e = record {
-  enough = accepted ps t e .enough;
-  fits = omega (arith, built-length ps t, accepted ps t e .room);
+  enough = accepted ps t e .lengths .some-points;
+  fits = omega (arith, built-length ps t, accepted ps t e .lengths .table-long);
   front = built-rows ps t e;
 }
 
 -- 13 in place of the build, what the build refuses, or the question
-pub with-table : (l : Line) (s : Store) (place : ℕ) (go : List ℤ → Reply) (t : List ℤ) {over : Bool} {o : Option Refusal}
+pub with-table : (l : Line) (s : Store) (place : ℕ) (go : List ℤ → Reply) (t : List ℤ)
+    {over : Bool} {o : Option Refusal}
     → rowNumbers (s .points) ≤ length t → s .over ≡ over → buildRefusal (s .points) t ≡ o
     → cond over (refusedAt 13 l place) (onBuild l o (go (tableOf (s .points)))) ≡ withTable l s place go
 unfolding withTable
@@ -87,12 +92,8 @@ pub rows-ready : (s : Store) (t : List ℤ) → isReady s t ≡ true → Rows (s
 unfolding isReady
 rows-ready s t e = go (s .over) (buildRefusal (s .points) t) refl refl e
   where
-    go : (over : Bool) (o : Option Refusal) → s .over ≡ over → buildRefusal (s .points) t ≡ o → cond over false (clear o) ≡ true → Rows (s .points) (tableAfter s t)
+    go : (over : Bool) (o : Option Refusal) → s .over ≡ over → buildRefusal (s .points) t ≡ o
+        → cond over false (clear o) ≡ true → Rows (s .points) (tableAfter s t)
     go true o p q h = absurd (false≢true h)
     go false none p q h = subst (Rows (s .points)) (table-is s t p) (rows-stand (s .points) t q)
     go false (some r) p q h = absurd (false≢true h)
-
--- B's table is as readying leaves it, where A stands ready, and else as it was
-pub second-is : (a b : Store) (tableA tableB : List ℤ) {k : Bool} → isReady a tableA ≡ k → cond k (tableAfter b tableB) tableB ≡ secondAfter a b tableA tableB
-unfolding secondAfter
-second-is a b tableA tableB e = sym (ap (λ (k : Bool). cond k (tableAfter b tableB) tableB) e)

@@ -1,11 +1,13 @@
 -- What the questions leave in the lent tables: a line is readied by its build, and B only where A stands ready.
-use mathlib.Core.Bool.{Bool, true, false, cond}
+use mathlib.Core.Bool.{Bool, true, false, cond, _&&_}
 use mathlib.Core.List.{List}
 use mathlib.Core.Option.{Option, none, some}
 use lib.IntN.{ℤ}
 use Rattle.rules.specs.declared.Refusal.{Refusal}
 use Rattle.rules.specs.Build.{buildRefusal, builtTable}
 use Rattle.desk.specs.Desk.{Store}
+use Rattle.ready.specs.declared.Needed.{Needed}
+use Rattle.ready.specs.declared.Needed.the-variants.{NoTable, TableA, BothTables}
 
 -- no refusal
 abbrev pub clear : Option Refusal → Bool
@@ -20,6 +22,19 @@ isReady s t = cond (s .over) false (clear (buildRefusal (s .points) t))
 unfoldable pub tableAfter : Store → List ℤ → List ℤ
 tableAfter s t = cond (s .over) t (builtTable (s .points) t)
 
--- a question of both lines leaves B's table as it was, where A does not stand ready
-unfoldable pub secondAfter : Store → Store → List ℤ → List ℤ → List ℤ
-secondAfter a b tableA tableB = cond (isReady a tableA) (tableAfter b tableB) tableB
+-- ---- the tables that are needed stand ready
+abbrev pub standReady : Needed → Store → Store → List ℤ → List ℤ → Bool
+standReady NoTable a b tableA tableB = true
+standReady TableA a b tableA tableB = isReady a tableA
+standReady BothTables a b tableA tableB = isReady a tableA && isReady b tableB
+
+-- A's table is readied where it is needed, and B's where A stands ready
+abbrev pub firstAfter : Needed → Store → List ℤ → List ℤ
+firstAfter NoTable a tableA = tableA
+firstAfter TableA a tableA = tableAfter a tableA
+firstAfter BothTables a tableA = tableAfter a tableA
+
+abbrev pub secondAfter : Needed → Store → Store → List ℤ → List ℤ → List ℤ
+secondAfter NoTable a b tableA tableB = tableB
+secondAfter TableA a b tableA tableB = tableB
+secondAfter BothTables a b tableA tableB = cond (isReady a tableA) (tableAfter b tableB) tableB

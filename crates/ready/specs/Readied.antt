@@ -5,32 +5,58 @@ use mathlib.Core.List.{List}
 use Prim.Native.Nat.{ℕ, _≤_}
 use lib.IntN.{ℤ}
 use lib.ListN.{length, take}
+use Rattle.rules.specs.declared.Line.{Line}
 use Rattle.rules.specs.declared.Line.the-variants.{LineA, LineB}
 use Rattle.rules.specs.Sheet.{pointsOf, fewest}
-use Rattle.rules.specs.Reply.{Reply}
+use Rattle.rules.specs.declared.Reply.{Reply}
 use Rattle.rules.specs.Build.{tableOf}
-use Rattle.built.specs.Accepted.{rowNumbers}
-use Rattle.print.specs.Said.{saidReply}
+use Rattle.table_truth.specs.Accepted.{rowNumbers}
 use Rattle.desk.specs.Desk.{Store, withTable}
+use Rattle.ready.specs.declared.Needed.{Needed}
+use Rattle.ready.specs.declared.Needed.the-variants.{NoTable, TableA, BothTables}
 use Rattle.ready.specs.declared.Readied.{Readied}
 use Rattle.ready.specs.declared.Readied.the-variants.{Ready, Told}
+use Rattle.ready.specs.Left.{isReady, tableAfter, standReady, firstAfter, secondAfter}
 
--- ---- a question of one line goes on with its table, or a refusal is told
-abbrev pub readiedReply : Readied → List ℤ → (List ℤ → Reply) → Reply
-readiedReply Ready ps go = go (tableOf ps)
-readiedReply (Told said) ps go = saidReply said
+-- ---- the reply of a question whose tables stand ready, or what is told in its place
+abbrev pub readiedReply : Readied → Reply → Reply
+readiedReply Ready reply = reply
+readiedReply (Told told) reply = told
 
 -- whether the question goes on
 abbrev pub goesOn : Readied → Bool
 goesOn Ready = true
-goesOn (Told said) = false
+goesOn (Told told) = false
 
--- the rows of a line stand at the front of its table
+-- ---- the rows of a line stand at the front of its table
 pub record Rows (ps t : List ℤ) : Type 0 where
   pub enough : fewest ≤ pointsOf ps
   pub fits : rowNumbers ps ≤ length t
   pub front : take (rowNumbers ps) t ≡ tableOf ps
 
--- ---- a question of both lines: A's table, then B's
-abbrev pub withBoth : Store → Store → ℕ → (List ℤ → List ℤ → Reply) → Reply
-withBoth a b place go = withTable LineA a place (λ t. withTable LineB b place (λ t′. go t t′))
+-- the rows of the lines whose tables are needed
+abbrev pub HasRows : Needed → List ℤ → List ℤ → List ℤ → List ℤ → Type 0
+HasRows NoTable ps t qs t′ = Unit {0}
+HasRows TableA ps t qs t′ = Rows ps t
+HasRows BothTables ps t qs t′ = Rows ps t × Rows qs t′
+
+-- ---- a question with the tables that it needs: A's, then B's; one that is not needed is as described
+abbrev pub withTables : Needed → Store → Store → ℕ → (List ℤ → List ℤ → Reply) → Reply
+withTables NoTable a b place go = go (tableOf (a .points)) (tableOf (b .points))
+withTables TableA a b place go = withTable LineA a place (λ t. go t (tableOf (b .points)))
+withTables BothTables a b place go = withTable LineA a place (λ t. withTable LineB b place (λ t′. go t t′))
+
+-- ---- a line is readied: the reply of whatever is asked, whether it is, and what is left in its table
+pub record ReadiesLine (l : Line) (s : Store) (place : ℕ) (table : List ℤ) (r : Readied) (after : List ℤ) : Type 0 where
+  pub reply : (go : List ℤ → Reply) → readiedReply r (go (tableOf (s .points))) ≡ withTable l s place go
+  pub goes : goesOn r ≡ isReady s table
+  pub left : after ≡ tableAfter s table
+
+-- .. and the tables that are needed
+pub record Readies (k : Needed) (a b : Store) (place : ℕ) (tableA tableB : List ℤ) (r : Readied) (leftA leftB : List ℤ)
+    : Type 0 where
+  pub reply : (go : List ℤ → List ℤ → Reply)
+      → readiedReply r (go (tableOf (a .points)) (tableOf (b .points))) ≡ withTables k a b place go
+  pub goes : goesOn r ≡ standReady k a b tableA tableB
+  pub first : leftA ≡ firstAfter k a tableA
+  pub second : leftB ≡ secondAfter k a b tableA tableB

@@ -1,10 +1,12 @@
--- Where AGREE's asking is refused: at a point off the sheet, or in the NEAR walk of one point. Asking some points and
--- then others is asking them all, so what comes before that point is an asking too.
+-- Where AGREE's asking is refused: at a point off the sheet, or in the NEAR walk of one point. Asking one point more is
+-- asking the others and then that one, so all is induction on the number of points; what is asked before the points of
+-- a line is a parameter, so that A's points and B's are one case.
 use mathlib.Core.Path.{_≡_, refl, sym, _∙_, ap, subst}
 use mathlib.Core.Bool.{Bool, true, false, cond}
-use mathlib.Core.List.{List}
-use mathlib.Core.Logic.{_⊎_, inl, inr}
-use Prim.Native.Nat.{ℕ, zero, suc, _+_, _-_, _≤_, _<_}
+use mathlib.Core.List.{List, [], _∷_}
+use mathlib.Core.Logic.{_⊎_, inl, inr, ⊎-elim}
+use mathlib.Core.Option.{none}
+use Prim.Native.Nat.{ℕ, zero, suc, _+_, _<_}
 use native.Mathlib.Decide.{ℕ-discrete}
 use native.Mathlib.Omega.{arith}
 use lib.IntN.{ℤ}
@@ -12,237 +14,245 @@ use Rattle.rules.specs.declared.Line.{Line}
 use Rattle.rules.specs.declared.Line.the-variants.{NoLine, LineA, LineB}
 use Rattle.rules.specs.declared.Refusal.{Refusal}
 use Rattle.rules.specs.declared.Tally.{Tally}
-use Rattle.rules.specs.Sheet.{point, pointsOf, onSheet}
+use Rattle.rules.specs.Sheet.{point, pointsOf, segmentsOf, onSheet}
+use Rattle.rules.specs.declared.Reply.{Reply}
+use Rattle.rules.specs.Reply.{firstRefusal, orRefused, refuses}
+use Rattle.rules.specs.Rows.{distanceCheck}
 use Rattle.rules.specs.Walk.{Walked, ended, over, spent, refused, fresh}
-use Rattle.rules.specs.Questions.{Nothing, nearWalk, Asked, allNear, notNear, unasked, faulted, onNear, askAll}
-use Rattle.rules.specs.Questions.{onAllNear, agreeWalk}
+use Rattle.rules.specs.Questions.{root, Nothing, nearWalk, Asked, allNear, notNear, unasked, faulted, onNear, askAll}
+use Rattle.rules.specs.Questions.{onAllNear, agreeWalk, agreeChecks, agreed}
 use Rattle.visits.proofs.Tests.{never}
-use Rattle.refusals.specs.Named.{OnUpTo, FirstOff, offRefusal, Reached}
+use Rattle.refusals.specs.Named.{NearBad, OnUpTo, FirstOff, offRefusal, Reached, ComesTo, OtherBad, AgreeBad}
+use Rattle.refusals.specs.Named.{PointOff}
+use Rattle.refusals.proofs.Sees.{first-bad, bad-refused}
+use Rattle.refusals.proofs.Questions.{In, near-visits, both-stand, bad-late}
+
+-- ---------------- the points of one line
 
 module _ (l : Line) (ps : List ℤ) (m : Line) (qs t : List ℤ) (D : ℤ) where
   abbrev ask : ℕ → ℕ → Tally → Asked
   ask = askAll l ps m qs t D
 
-  -- one point, what comes of it given, and then the rest
+  -- one point, by whether it is on the sheet and what its walk comes to, and then the rest
   abbrev onPoint : ℕ → Tally → Bool → Walked Nothing → (Tally → Asked) → Asked
-  onPoint i v b w go = cond b (onNear l i w go) (faulted (offRefusal l i v))
+  onPoint i y b w go = cond b (onNear l i w go) (faulted (offRefusal l i y))
 
-  -- ---------------- asking some points, then others
-
-  on-split : (b : Bool) (w : Walked Nothing) (i : ℕ) (y : Tally) (go go′ rest : Tally → Asked)
+  on-more : (b : Bool) (w : Walked Nothing) (i : ℕ) (y : Tally) (go go′ rest : Tally → Asked)
       → ((v : Tally) → go v ≡ onAllNear (go′ v) rest) → onPoint i y b w go ≡ onAllNear (onPoint i y b w go′) rest
-  on-split true (ended v) i y go go′ rest h = h v
-  on-split true (over s v) i y go go′ rest h = refl
-  on-split true spent i y go go′ rest h = refl
-  on-split true (refused r) i y go go′ rest h = refl
-  on-split false w i y go go′ rest h = refl
+  on-more true (ended v) i y go go′ rest h = h v
+  on-more true (over s v) i y go go′ rest h = refl
+  on-more true spent i y go go′ rest h = refl
+  on-more true (refused r) i y go go′ rest h = refl
+  on-more false w i y go go′ rest h = refl
 
-  -- the p points from i on and then the k after them
-  ask-split : (i p k : ℕ) (y : Tally) → ask i (p + k) y ≡ onAllNear (ask i p y) (λ v. ask (i + p) k v)
+  -- k + 1 points are k points and then, where these are near, one more
+  ask-more : (i k j : ℕ) (y : Tally) → i + k ≡ j → ask i (suc k) y ≡ onAllNear (ask i k y) (ask j 1)
   unfolding askAll
-  ask-split i zero k y = λ d. ask (here d) (all d) y
-    where
-      here : i ≡ i + 0
-      here = omega arith
+  ask-more i zero j y e = ap (λ (n : ℕ). ask n 1 y) (omega arith)
+  ask-more i (suc k) j y e =
+      on-more (onSheet (point ps i)) (nearWalk m qs t (point ps i) D y) i y _ _ (ask j 1)
+      (λ v. ask-more (suc i) k j v (omega arith))
 
-      all : 0 + k ≡ k
-      all = omega arith
-  ask-split i (suc p) k y =
-      ap (λ (n : ℕ). ask i n y) more
-      ∙ on-split (onSheet (point ps i)) (nearWalk m qs t (point ps i) D y) i y _ _ (λ v. ask (i + suc p) k v)
-      (λ v. ask-split (suc i) p k v ∙ ap (λ (n : ℕ). onAllNear (ask (suc i) p v) (λ x. ask n k x)) along)
-    where
-      more : suc p + k ≡ suc (p + k)
-      more = omega arith
-
-      along : suc i + p ≡ i + suc p
-      along = omega arith
-
-  -- points off the sheet are not near
-  ask-on : (i k : ℕ) (y v : Tally) → ask i k y ≡ allNear v → (j : ℕ) → i ≤ j → j < i + k → onSheet (point ps j) ≡ true
-  unfolding askAll
-  ask-on i zero y v e j a b = absurd (omega arith)
-  ask-on i (suc k) y v e j a b =
-      go (onSheet (point ps i)) (nearWalk m qs t (point ps i) D y) refl e
-      (λ x q c. ask-on (suc i) k x v q j c (omega arith))
-    where
-      go : (b : Bool) (w : Walked Nothing) → onSheet (point ps i) ≡ b
-          → onPoint i y b w (λ x. ask (suc i) k x) ≡ allNear v
-          → ((x : Tally) → ask (suc i) k x ≡ allNear v → suc i ≤ j → onSheet (point ps j) ≡ true)
-          → onSheet (point ps j) ≡ true
-      go true (ended x) q e ih =
-          elim (ℕ-discrete i j) [
-            | yes h ↦ subst (λ (n : ℕ). onSheet (point ps n) ≡ true) h q
-            | no h ↦ ih x e (omega arith)
-          ]
-      go true (over s x) q e ih = never (cc)
-      go true spent q e ih = never (cc)
-      go true (refused r) q e ih = never (cc)
-      go false w q e ih = never (cc)
-
-  -- ---------------- the point that is refused
-
-  -- point i is off the sheet, or its walk from tally y on is refused
+  -- point i is the cause of a refusal: it is off the sheet, or its walk from tally y on is refused
   abbrev pub Cause : ℕ → Tally → Refusal → Type 0
   Cause i y r =
       ((onSheet (point ps i) ≡ false) × (r ≡ offRefusal l i y))
       ⊎ ((onSheet (point ps i) ≡ true) × (nearWalk m qs t (point ps i) D y ≡ refused r))
 
-  -- of the k points from i on, the one that is the cause, and the tally that those before it left
-  record Fault (i k : ℕ) (y : Tally) (r : Refusal) : Type 0 where
-    passed : ℕ
-    index : ℕ
-    along : index ≡ i + passed
-    below : passed < k
-    tally : Tally
-    near : ask i passed y ≡ allNear tally
-    cause : Cause index tally r
+  -- what asking the first k points tells: all are on the sheet, or one that it comes to is the cause
+  abbrev AskTells : ℕ → Tally → Asked → Type 0
+  AskTells k y (allNear v) = OnUpTo ps k
+  AskTells k y (notNear n j v) = Unit {0}
+  AskTells k y unasked = Unit {0}
+  AskTells k y (faulted r) = (i : ℕ) × (v : Tally) × (i < k) × (ask 0 i y ≡ allNear v) × Cause i v r
 
-  ask-fault : (i k : ℕ) (y : Tally) (r : Refusal) → ask i k y ≡ faulted r → Fault i k y r
+  -- one point after them
+  one-tells : (k : ℕ) (y v : Tally) → ask 0 k y ≡ allNear v → OnUpTo ps k → (b : Bool) (w : Walked Nothing)
+      → onSheet (point ps k) ≡ b → nearWalk m qs t (point ps k) D v ≡ w → AskTells (suc k) y (onPoint k v b w allNear)
+  one-tells k y v e h true (ended x) p q = λ j l.
+      elim (ℕ-discrete k j) [ yes c ↦ ap (λ (n : ℕ). onSheet (point ps n)) (sym c) ∙ p | no c ↦ h j (omega arith) ]
+  one-tells k y v e h true (over s x) p q = tt
+  one-tells k y v e h true spent p q = tt
+  one-tells k y v e h true (refused r) p q = (k, v, omega arith, e, inr (p, q))
+  one-tells k y v e h false w p q = (k, v, omega arith, e, inl (p, refl))
+
+  ask-tells : (k : ℕ) (y : Tally) → AskTells k y (ask 0 k y)
   unfolding askAll
-  ask-fault i zero y r e = never (cc)
-  ask-fault i (suc k) y r e =
-      go (onSheet (point ps i)) (nearWalk m qs t (point ps i) D y) refl refl e (λ v. ask-fault (suc i) k v r)
+  ask-tells zero y = λ j b. absurd (omega arith)
+  ask-tells (suc k) y =
+      subst (AskTells (suc k) y) (sym (ask-more 0 k k y (omega arith))) (go (ask 0 k y) refl (ask-tells k y))
     where
-      here : Cause i y r → Fault i (suc k) y r
-      here c = record {
-        passed = 0;
-        index = i;
-        along = omega arith;
-        below = omega arith;
-        tally = y;
-        near = refl;
-        cause = c;
-      }
+      go : (a : Asked) → ask 0 k y ≡ a → AskTells k y a → AskTells (suc k) y (onAllNear a (ask k 1))
+      go (allNear v) e h = one-tells k y v e h _ _ refl refl
+      go (notNear n j v) e h = tt
+      go unasked e h = tt
+      go (faulted r) e h = (h .0, h .1, omega (arith, h .2), h .3, h .4)
 
-      go : (b : Bool) (w : Walked Nothing) → onSheet (point ps i) ≡ b → nearWalk m qs t (point ps i) D y ≡ w
-          → onPoint i y b w (λ x. ask (suc i) k x) ≡ faulted r
-          → ((v : Tally) → ask (suc i) k v ≡ faulted r → Fault (suc i) k v r) → Fault i (suc k) y r
-      go true (ended v) q p e ih =
-          let f = ih v e in record {
-            passed = suc (f .passed);
-            index = f .index;
-            along = omega (arith, f .along);
-            below = omega (arith, f .below);
-            tally = f .tally;
-            near = (λ d. onPoint i y (q d) (p d) (λ x. ask (suc i) (f .passed) x)) ∙ f .near;
-            cause = f .cause;
-          }
-      go true (over s v) q p e ih = never (cc)
-      go true spent q p e ih = never (cc)
-      go true (refused x) q p e ih = let s : x ≡ r = cc in here (inr (q, p ∙ ap refused s))
-      go false w q p e ih = here (inl (q, cc))
+  -- and back: where the asking comes to a point that is the cause, it is refused
+  cause-stops : (i : ℕ) (y : Tally) (r : Refusal) → Cause i y r → ask i 1 y ≡ faulted r
+  unfolding askAll
+  cause-stops i y r (inl c) =
+      ap (λ (b : Bool). onPoint i y b (nearWalk m qs t (point ps i) D y) allNear) (c .0) ∙ ap faulted (sym (c .1))
+  cause-stops i y r (inr c) = λ d. onPoint i y (c .0 d) (c .1 d) allNear
 
-  cause-stops : (i : ℕ) (v : Tally) (r : Refusal) (go : Tally → Asked) → Cause i v r
-      → onPoint i v (onSheet (point ps i)) (nearWalk m qs t (point ps i) D v) go ≡ faulted r
-  cause-stops i v r go (inl c) =
-      ap (λ (b : Bool). onPoint i v b (nearWalk m qs t (point ps i) D v) go) (c .0) ∙ ap faulted (sym (c .1))
-  cause-stops i v r go (inr c) = λ d. onPoint i v (c .0 d) (c .1 d) go
-
-  -- where the asking comes to point i of k, and that is the cause, it is refused
   cause-fault : (i k : ℕ) (y v : Tally) (r : Refusal) → i < k → ask 0 i y ≡ allNear v → Cause i v r
       → ask 0 k y ≡ faulted r
-  unfolding askAll
-  cause-fault i k y v r b e c =
-      ap (λ (n : ℕ). ask 0 n y) parted ∙ ask-split 0 i (suc (k - suc i)) y
-      ∙ ap (λ (w : Asked). onAllNear w (λ x. ask (0 + i) (suc (k - suc i)) x)) e
-      ∙ ap (λ (n : ℕ). ask n (suc (k - suc i)) v) start ∙ cause-stops i v r (λ x. ask (suc i) (k - suc i) x) c
-    where
-      parted : k ≡ i + suc (k - suc i)
-      parted = omega arith
+  cause-fault i zero y v r l e c = absurd (omega arith)
+  cause-fault i (suc k) y v r l e c =
+      ask-more 0 k k y (omega arith)
+      ∙ elim (ℕ-discrete i k) [
+        | yes q ↦ ap (λ (a : Asked). onAllNear a (ask k 1)) (subst (λ (n : ℕ). ask 0 n y ≡ allNear v) q e)
+            ∙ cause-stops k v r (subst (λ (n : ℕ). Cause n v r) q c)
+        | no q ↦ ap (λ (a : Asked). onAllNear a (ask k 1)) (cause-fault i k y v r (omega arith) e c)
+      ]
 
-      start : 0 + i ≡ i
-      start = omega arith
+  -- ---------------- after what is asked before them
 
-  -- of all points from the first on
-  first-fault : (k : ℕ) (y : Tally) (r : Refusal) → ask 0 k y ≡ faulted r
-      → (i : ℕ) × (v : Tally) × (i < k) × (ask 0 i y ≡ allNear v) × Cause i v r
-  first-fault k y r e =
-      let f = ask-fault 0 k y r e in
-      let here : f .index ≡ f .passed = omega (arith, f .along) in
-      (f .passed, f .tally, f .below, f .near, subst (λ (i : ℕ). Cause i (f .tally) r) here (f .cause))
+  -- the asking comes to point i with tally y
+  abbrev Comes : Asked → ℕ → Tally → Type 0
+  Comes before i y = onAllNear before (ask 0 i) ≡ allNear y
 
-  upto : (i : ℕ) (y v : Tally) → ask 0 i y ≡ allNear v → OnUpTo ps i
-  upto i y v e j b = ask-on 0 i y v e j (omega arith) (omega arith)
+  comes-read : (before : Asked) (i : ℕ) (y : Tally) → Comes before i y
+      → (v : Tally) × (before ≡ allNear v) × (ask 0 i v ≡ allNear y)
+  comes-read (allNear v) i y e = (v, refl, e)
+  comes-read (notNear n j v) i y e = never (cc)
+  comes-read unasked i y e = never (cc)
+  comes-read (faulted r) i y e = never (cc)
 
--- both lines' points are near where the first line's are, and then the second's
-both-near : (w : Asked) (go : Tally → Asked) (y : Tally) → onAllNear w go ≡ allNear y
-    → (v : Tally) × (w ≡ allNear v) × (go v ≡ allNear y)
-both-near (allNear v) go y e = (v, refl, e)
-both-near (notNear l i v) go y e = never (cc)
-both-near unasked go y e = never (cc)
-both-near (faulted r) go y e = never (cc)
+  comes-on : (before : Asked) (i : ℕ) (y : Tally) → Comes before i y → OnUpTo ps i
+  comes-on before i y e = let c = comes-read before i y e in subst (AskTells i (c .0)) (c .2) (ask-tells i (c .0))
+
+  comes-fault : (before : Asked) (k : ℕ) (r : Refusal) → onAllNear before (ask 0 k) ≡ faulted r
+      → (before ≡ faulted r) ⊎ ((i : ℕ) × (y : Tally) × (i < k) × Comes before i y × Cause i y r)
+  comes-fault (allNear v) k r e = inr (subst (AskTells k v) e (ask-tells k v))
+  comes-fault (notNear n j v) k r e = never (cc)
+  comes-fault unasked k r e = never (cc)
+  comes-fault (faulted s) k r e = inl e
+
+  fault-comes : (before : Asked) (i k : ℕ) (y : Tally) (r : Refusal) → i < k → Comes before i y → Cause i y r
+      → onAllNear before (ask 0 k) ≡ faulted r
+  fault-comes before i k y r l e c =
+      let b = comes-read before i y e in
+      ap (λ (a : Asked). onAllNear a (ask 0 k)) (b .1) ∙ cause-fault i k (b .0) y r l (b .2) c
+
+  -- ---------------- a walk that is refused, and the bad row of the other line
+
+  module _ (fine : In qs (root qs)) (i : ℕ) (y : Tally) where
+    refused-bad : (r : Refusal) → nearWalk m qs t (point ps i) D y ≡ refused r
+        → NearBad m qs t (point ps i) D y (refuses r) × (r .number ≡ 10)
+    refused-bad = first-bad (near-visits m qs t (point ps i) D) (segmentsOf qs) (root qs) tt y fine
+
+    bad-cause : (q : Reply) → (onSheet (point ps i) ≡ true) × NearBad m qs t (point ps i) D y q
+        → (r : Refusal) × Cause i y r × (r .number ≡ 10)
+    bad-cause q h =
+        let w = bad-refused (near-visits m qs t (point ps i) D) (segmentsOf qs) (root qs) tt y fine q (h .1) in
+        (w .0, inr (h .0, w .1), refused-bad (w .0) (w .1) .1)
 
 -- ---------------- both lines
 
-module _ (ps t qs t′ : List ℤ) (D : ℤ) where
-  abbrev askA : ℕ → Tally → Asked
-  askA k y = askAll LineA ps LineB qs t′ D 0 k y
+-- what does not reply 0 was refused
+agreed-else : (a : ℕ) (w : Asked) → (agreed a w .number ≡ 0) ⊎ ((r : Refusal) × (w ≡ faulted r))
+agreed-else a (allNear y) = inl refl
+agreed-else a (notNear l i y) = inl refl
+agreed-else a unasked = inl refl
+agreed-else a (faulted r) = inr (r, refl)
 
-  abbrev askB : ℕ → Tally → Asked
-  askB k y = askAll LineB qs LineA ps t D 0 k y
+module _ (ps t qs t′ : List ℤ) (D : ℤ) (a : ℕ) where
+  -- what is asked before B's points
+  abbrev asked-A : Asked
+  asked-A = askAll LineA ps LineB qs t′ D 0 (pointsOf ps) (fresh a)
 
-  abbrev pub AgreeCause : Line → ℕ → Tally → Refusal → Type 0
-  AgreeCause NoLine i y r = ⊥
-  AgreeCause LineA i y r = Cause LineA ps LineB qs t′ D i y r
-  AgreeCause LineB i y r = Cause LineB qs LineA ps t D i y r
+  abbrev pub AgreeCause : Refusal → Line → ℕ → Tally → Type 0
+  AgreeCause r NoLine i y = ⊥
+  AgreeCause r LineA i y = Cause LineA ps LineB qs t′ D i y r
+  AgreeCause r LineB i y = Cause LineB qs LineA ps t D i y r
 
-  pub record AgreeFault (a : ℕ) (r : Refusal) : Type 0 where
-    pub line : Line
-    pub index : ℕ
-    pub tally : Tally
-    pub reached : Reached ps t qs t′ D a line index tally
-    pub cause : AgreeCause line index tally r
+  abbrev ComesAt : (Line → ℕ → Tally → Type 0) → Type 0
+  ComesAt P = ComesTo ps t qs t′ D a P
 
-  -- an asking that is refused comes to a point that is the cause
-  pub agree-fault : (a : ℕ) (r : Refusal) → agreeWalk ps t qs t′ D (fresh a) ≡ faulted r → AgreeFault a r
+  pub comes-map : {P Q : Line → ℕ → Tally → Type 0} (c : ComesAt P) → Q (c .line) (c .index) (c .tally) → ComesAt Q
+  comes-map c h = record { line = c .line; index = c .index; tally = c .tally; reached = c .reached; has = h }
+
+  -- an asking is refused exactly where it comes to a point that is the cause
+  agree-fault : (r : Refusal) → agreeWalk ps t qs t′ D (fresh a) ≡ faulted r → ComesAt (AgreeCause r)
   unfolding agreeWalk
-  agree-fault a r = go (askA (pointsOf ps) (fresh a)) refl
+  agree-fault r e =
+      ⊎-elim
+      (λ q.
+      ⊎-elim (λ n. never (cc))
+      (λ f. record { line = LineA; index = f .0; tally = f .1; reached = (f .2, f .3); has = f .4 })
+      (comes-fault LineA ps LineB qs t′ D (allNear (fresh a)) (pointsOf ps) r q))
+      (λ f. record { line = LineB; index = f .0; tally = f .1; reached = (f .2, f .3); has = f .4 })
+      (comes-fault LineB qs LineA ps t D asked-A (pointsOf qs) r e)
+
+  pub fault-agree : {r : Refusal} → ComesAt (AgreeCause r) → agreeWalk ps t qs t′ D (fresh a) ≡ faulted r
+  unfolding agreeWalk
+  fault-agree {r} f = go (f .line) (f .index) (f .tally) (f .reached) (f .has)
     where
-      go : (w : Asked) → askA (pointsOf ps) (fresh a) ≡ w → onAllNear w (λ v. askB (pointsOf qs) v) ≡ faulted r
-          → AgreeFault a r
-      go (allNear v) q e =
-          let f = first-fault LineB qs LineA ps t D (pointsOf qs) v r e in record {
-            line = LineB;
-            index = f .0;
-            tally = f .1;
-            reached = (f .2, ap (λ (w : Asked). onAllNear w (λ x. askB (f .0) x)) q ∙ f .3);
-            cause = f .4;
-          }
-      go (notNear l i v) q e = never (cc)
-      go unasked q e = never (cc)
-      go (faulted x) q e =
-          let s : askA (pointsOf ps) (fresh a) ≡ faulted r = q ∙ e in
-          let f = first-fault LineA ps LineB qs t′ D (pointsOf ps) (fresh a) r s in
-          record { line = LineA; index = f .0; tally = f .1; reached = (f .2, f .3); cause = f .4 }
-
-  -- a point that the asking comes to, and that is off the sheet, is the first one
-  pub first-off-A : (a i : ℕ) (y : Tally) → Reached ps t qs t′ D a LineA i y → onSheet (point ps i) ≡ false
-      → FirstOff ps qs LineA i
-  first-off-A a i y h o = (upto LineA ps LineB qs t′ D i (fresh a) y (h .1), o)
-
-  pub first-off-B : (a i : ℕ) (y : Tally) → Reached ps t qs t′ D a LineB i y → onSheet (point qs i) ≡ false
-      → FirstOff ps qs LineB i
-  first-off-B a i y h o =
-      let n = both-near (askA (pointsOf ps) (fresh a)) (λ v. askB i v) y (h .1) in
-      let all = upto LineA ps LineB qs t′ D (pointsOf ps) (fresh a) (n .0) (n .1) in
-      (all, upto LineB qs LineA ps t D i (n .0) y (n .2), o)
-
-  -- and back
-  pub fault-agree : (a : ℕ) (r : Refusal) (l : Line) (i : ℕ) (y : Tally) → Reached ps t qs t′ D a l i y
-      → AgreeCause l i y r → agreeWalk ps t qs t′ D (fresh a) ≡ faulted r
-  unfolding agreeWalk
-  fault-agree a r NoLine i y h c = absurd h
-  fault-agree a r LineA i y h c =
-      ap (λ (w : Asked). onAllNear w (λ x. askB (pointsOf qs) x))
-      (cause-fault LineA ps LineB qs t′ D i (pointsOf ps) (fresh a) y r (h .0) (h .1) c)
-  fault-agree a r LineB i y h c =
-      let n = both-near (askA (pointsOf ps) (fresh a)) (λ v. askB i v) y (h .1) in
-      ap (λ (w : Asked). onAllNear w (λ x. askB (pointsOf qs) x)) (n .1)
-      ∙ cause-fault LineB qs LineA ps t D i (pointsOf qs) (n .0) y r (h .0) (n .2) c
+      go : (l : Line) (i : ℕ) (y : Tally) → Reached ps t qs t′ D a l i y → AgreeCause r l i y
+          → onAllNear asked-A (askAll LineB qs LineA ps t D 0 (pointsOf qs)) ≡ faulted r
+      go NoLine i y h c = absurd h
+      go LineA i y h c =
+          ap (λ (w : Asked). onAllNear w (askAll LineB qs LineA ps t D 0 (pointsOf qs)))
+          (fault-comes LineA ps LineB qs t′ D (allNear (fresh a)) i (pointsOf ps) y r (h .0) (h .1) c)
+      go LineB i y h c = fault-comes LineB qs LineA ps t D asked-A i (pointsOf qs) y r (h .0) (h .1) c
 
   -- a first point off the sheet is a cause
-  pub off-cause : (l : Line) (i : ℕ) (y : Tally) → FirstOff ps qs l i → AgreeCause l i y (offRefusal l i y)
+  pub off-cause : (l : Line) (i : ℕ) (y : Tally) → FirstOff ps qs l i → AgreeCause (offRefusal l i y) l i y
   off-cause NoLine i y o = absurd o
   off-cause LineA i y o = inl (o .1, refl)
   off-cause LineB i y o = inl (o .2, refl)
+
+  -- an early refusal has met no bad row
+  pub other-late : (r : Reply) (l : Line) (i : ℕ) (y : Tally)
+      → OtherBad ps t qs t′ D (orRefused (firstRefusal (agreeChecks ps t qs t′ D)) r) l i y
+      → firstRefusal (agreeChecks ps t qs t′ D) ≡ none
+  other-late r NoLine i y h = absurd h
+  other-late r LineA i y h = bad-late (agreeChecks ps t qs t′ D) r _ y (h .1)
+  other-late r LineB i y h = bad-late (agreeChecks ps t qs t′ D) r _ y (h .1)
+
+  module _ (e : firstRefusal (agreeChecks ps t qs t′ D) ≡ none) where
+    stand : In ps (root ps) × In qs (root qs)
+    stand = both-stand ps t qs t′ (distanceCheck D ∷ []) e
+
+    -- a bad row of the other line is a cause
+    pub other-cause : (q : Reply) (l : Line) (i : ℕ) (y : Tally) → OtherBad ps t qs t′ D q l i y
+        → (r : Refusal) × AgreeCause r l i y × (r .number ≡ 10)
+    other-cause q NoLine i y h = absurd h
+    other-cause q LineA i y h = bad-cause LineA ps LineB qs t′ D (stand .1) i y q h
+    other-cause q LineB i y h = bad-cause LineB qs LineA ps t D (stand .0) i y q h
+
+    -- a cause is a first point off the sheet, with 8, or a bad row of the other line, with 10
+    cause-read : (r : Refusal) (l : Line) (i : ℕ) (y : Tally) → Reached ps t qs t′ D a l i y → AgreeCause r l i y
+        → (FirstOff ps qs l i × (r .number ≡ 8)) ⊎ (OtherBad ps t qs t′ D (refuses r) l i y × (r .number ≡ 10))
+    cause-read r NoLine i y h c = absurd c
+    cause-read r LineA i y h (inl c) =
+        let some = comes-on LineA ps LineB qs t′ D (allNear (fresh a)) i y (h .1) in
+        inl ((some, c .0), ap (λ (x : Refusal). x .number) (c .1))
+    cause-read r LineB i y h (inl c) =
+        let n = comes-read LineB qs LineA ps t D asked-A i y (h .1) in
+        let all = comes-on LineA ps LineB qs t′ D (allNear (fresh a)) (pointsOf ps) (n .0) (n .1) in
+        inl ((all, comes-on LineB qs LineA ps t D asked-A i y (h .1), c .0), ap (λ (x : Refusal). x .number) (c .1))
+    cause-read r LineA i y h (inr c) =
+        let b = refused-bad LineA ps LineB qs t′ D (stand .1) i y r (c .1) in inr ((c .0, b .0), b .1)
+    cause-read r LineB i y h (inr c) =
+        let b = refused-bad LineB qs LineA ps t D (stand .0) i y r (c .1) in inr ((c .0, b .0), b .1)
+
+    -- after the checks a number is 8, at a point off the sheet, or 10, at a bad row
+    abbrev Late : ℕ → Reply → Type 0
+    Late k r = (PointOff ps t qs t′ D a × (k ≡ 8)) ⊎ (AgreeBad ps t qs t′ D a r × (k ≡ 10))
+
+    pub agree-late : (k : ℕ) → 0 < k → agreed a (agreeWalk ps t qs t′ D (fresh a)) .number ≡ k
+        → Late k (agreed a (agreeWalk ps t qs t′ D (fresh a)))
+    agree-late k p h =
+        ⊎-elim (λ z. absurd (omega arith)) (λ w. go (w .0) (w .1)) (agreed-else a (agreeWalk ps t qs t′ D (fresh a)))
+      where
+        go : (r : Refusal) → agreeWalk ps t qs t′ D (fresh a) ≡ faulted r
+            → Late k (agreed a (agreeWalk ps t qs t′ D (fresh a)))
+        go r w =
+            let f = agree-fault r w in
+            let n : k ≡ r .number = sym h ∙ ap (λ (x : Asked). agreed a x .number) w in
+            subst (λ (x : Asked). Late k (agreed a x)) (sym w)
+            (⊎-elim (λ o. inl (record { unrefused = e; at = comes-map f (o .0) }, n ∙ o .1))
+            (λ b. inr (comes-map f (b .0), n ∙ b .1))
+            (cause-read r (f .line) (f .index) (f .tally) (f .reached) (f .has)))

@@ -1,14 +1,18 @@
 -- The first check that holds is the refusal that is told: one theorem over lists of checks, read at the build and at
 -- any reply that checks come before.
-use mathlib.Core.Path.{_≡_, refl, sym, _∙_, ap}
-use mathlib.Core.Bool.{Bool, true, false, cond}
+use mathlib.Core.Path.{_≡_, refl, sym, _∙_, ap, subst}
+use mathlib.Core.Bool.{Bool, true, false, cond, _&&_}
 use mathlib.Core.List.{List, [], _∷_}
 use mathlib.Core.Logic.{_↔_, _≢_}
 use mathlib.Core.Option.{Option, none, some}
-use Prim.Native.Nat.{ℕ}
+use Prim.Native.Nat.{ℕ, _≤_, _<_}
+use native.Mathlib.Omega.{arith}
+use lib.Dec.{T, ltb, ltb→lt}
 use lib.IntN.{ℤ}
+use mir.Facts.{and-yes}
 use Rattle.rules.specs.declared.Refusal.{Refusal}
-use Rattle.rules.specs.Reply.{Reply, Check, early, firstRefusal, orRefused, refuses}
+use Rattle.rules.specs.declared.Reply.{Reply}
+use Rattle.rules.specs.Reply.{Check, early, firstRefusal, orRefused, refuses}
 use Rattle.rules.specs.Build.{buildRefusal, buildChecks}
 use Rattle.visits.proofs.Checks.{clear-none, orElse, first-append}
 use Rattle.visits.proofs.Tests.{never}
@@ -63,3 +67,32 @@ module _ (ks : List Check) (r : Reply) where
           → (f : Refusal) × Reason ks f × (f .number ≡ k)
       go none e h = absurd (late e h)
       go (some f) e h = (f, first-reason ks f e, h)
+
+-- ---------------- a number above those of the checks
+
+-- the numbers of checks are below k
+abbrev pub below : ℕ → List Check → Bool
+below k [] = true
+below k (c ∷ cs) = ltb (c .number) k && below k cs
+
+-- so is the number of the refusal
+first-below : (k : ℕ) (cs : List Check) (f : Refusal) → T (below k cs) → firstRefusal cs ≡ some f → f .number < k
+first-below k [] f h e = never (cc)
+first-below k (c ∷ cs) f h e =
+    let p = and-yes (ltb (c .number) k) (below k cs) h in
+    go (c .holds) e (ltb→lt _ _ (p .0)) (first-below k cs f (p .1))
+  where
+    go : (b : Bool) → cond b (some (early c)) (firstRefusal cs) ≡ some f → c .number < k
+        → (firstRefusal cs ≡ some f → f .number < k) → f .number < k
+    go true e l ih = let q : early c ≡ f = cc in subst (λ (g : Refusal). g .number < k) q l
+    go false e l ih = ih e
+
+-- a reply with a number that is above those of its checks comes after them
+pub after-read : (j k : ℕ) (cs : List Check) (r : Reply) (P : Reply → Type 0) → T (below j cs) → j ≤ k
+    → (firstRefusal cs ≡ none → r .number ≡ k → P r) → orRefused (firstRefusal cs) r .number ≡ k
+    → P (orRefused (firstRefusal cs) r)
+after-read j k cs r P h l f = go (firstRefusal cs) refl
+  where
+    go : (o : Option Refusal) → firstRefusal cs ≡ o → orRefused o r .number ≡ k → P (orRefused o r)
+    go none e q = f e q
+    go (some g) e q = let m = first-below j cs g h e in absurd (omega arith)

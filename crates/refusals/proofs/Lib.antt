@@ -1,11 +1,10 @@
--- Refusals, exactly: the first check that holds (First); the questions are those without the check of 11 (Same,
--- Unchecked); a refused walk stops at its last visit (Trace); which numbers come (Numbers), where AGREE's asking is
--- refused (Asking); and so each question's refusals before its walk (Exactly) and in it (Bad).
+-- Refusals, exactly: the first check that holds (First); what one visit and one walk see of their rows (Sees); the
+-- questions that walk once (Questions), and so each question's refusals before its walk (Exactly) and in it (Bad), and
+-- that none needs the check of 11 (Unchecked). Where AGREE's asking is refused: Asking.
 pub mod First
-pub mod Same
+pub mod Sees
+pub mod Questions
 pub mod Unchecked
-pub mod Trace
-pub mod Numbers
 pub mod Asking
 pub mod Exactly
 pub mod Bad

@@ -16,11 +16,11 @@ use Rattle.rules.specs.declared.Point.{Point}
 use Rattle.rules.specs.declared.Refusal.{Refusal}
 use Rattle.rules.specs.declared.Tally.{Tally}
 use Rattle.rules.specs.Sheet.{point, pointsOf, segmentsOf, onSheet}
-use Rattle.rules.specs.Tree.{rowAt}
-use Rattle.rules.specs.Reply.{Reply, firstRefusal}
-use Rattle.rules.specs.Rows.{good}
+use Rattle.rules.specs.declared.Reply.{Reply}
+use Rattle.rules.specs.Reply.{firstRefusal}
 use Rattle.rules.specs.Walk.{fresh}
 use Rattle.rules.specs.Questions.{root, nearVisit, meetVisit, inVisit, allNear, askAll, onAllNear, agreeChecks}
+use Rattle.visits.specs.Nodes.{RowGood}
 use Rattle.refusals.specs.Trace.{visitsOf, Each}
 
 -- ---- of the nodes that are visited from tally y on, the last one is bad, at the reply's line and place, and each
@@ -34,12 +34,9 @@ pub record FirstBad {N : Type 0} (Good : N → Type 0) (Bad : N → Line → ℕ
   pub bad : Bad last (r .line) (r .place)
   pub counted : r .visits ≡ y .visits + length nodes
 
--- a node's row is good, or bad and named by line and place
-abbrev pub RowGood : List ℤ → List ℤ → Node → Type 0
-RowGood ps t n = good ps (rowAt t (n .row)) (n .first) (n .last) ≡ true
-
+-- a node's row is bad, and named by line and place
 abbrev pub RowBad : Line → List ℤ → List ℤ → Node → Line → ℕ → Type 0
-RowBad l ps t n line place = (good ps (rowAt t (n .row)) (n .first) (n .last) ≡ false) × (line ≡ l) × (place ≡ n .row)
+RowBad l ps t n line place = (¬ RowGood ps t n) × (line ≡ l) × (place ≡ n .row)
 
 -- of a pair, A's row is read first
 abbrev pub PairGood : List ℤ → List ℤ → List ℤ → List ℤ → Pair → Type 0
@@ -88,24 +85,24 @@ module _ (ps t qs t′ : List ℤ) (D : ℤ) where
       × (onAllNear (askAll LineA ps LineB qs t′ D 0 (pointsOf ps) (fresh allowance))
       (λ v. askAll LineB qs LineA ps t D 0 i v) ≡ allNear y)
 
-  -- a 10 comes from the NEAR walk of that point, which is on the sheet, against the other line
-  abbrev pub OtherBad : Line → ℕ → Tally → Reply → Type 0
-  OtherBad NoLine i y r = ⊥
-  OtherBad LineA i y r = (onSheet (point ps i) ≡ true) × NearBad LineB qs t′ (point ps i) D y r
-  OtherBad LineB i y r = (onSheet (point qs i) ≡ true) × NearBad LineA ps t (point qs i) D y r
-
-  pub record AgreeBad (allowance : ℕ) (r : Reply) : Type 0 where
+  -- the asking comes to a point that has P, of a line, with an index and the tally that the points before it left
+  pub record ComesTo (allowance : ℕ) (P : Line → ℕ → Tally → Type 0) : Type 0 where
     pub line : Line
     pub index : ℕ
     pub tally : Tally
     pub reached : Reached allowance line index tally
-    pub bad : OtherBad line index tally r
+    pub has : P line index tally
+
+  -- a 10 comes from the NEAR walk of that point, which is on the sheet, against the other line
+  abbrev pub OtherBad : Reply → Line → ℕ → Tally → Type 0
+  OtherBad r NoLine i y = ⊥
+  OtherBad r LineA i y = (onSheet (point ps i) ≡ true) × NearBad LineB qs t′ (point ps i) D y r
+  OtherBad r LineB i y = (onSheet (point qs i) ≡ true) × NearBad LineA ps t (point qs i) D y r
+
+  abbrev pub AgreeBad : ℕ → Reply → Type 0
+  AgreeBad allowance r = ComesTo allowance (OtherBad r)
 
   -- no check refuses, and the asking comes to a point off the sheet, the first
   pub record PointOff (allowance : ℕ) : Type 0 where
     pub unrefused : firstRefusal (agreeChecks ps t qs t′ D) ≡ none
-    pub line : Line
-    pub index : ℕ
-    pub tally : Tally
-    pub reached : Reached allowance line index tally
-    pub off : FirstOff ps qs line index
+    pub at : ComesTo allowance (λ l i y. FirstOff ps qs l i)

@@ -1,12 +1,8 @@
--- The nodes that a walk visits, in the order of the visits: the way of the walk, with the nodes kept. And where in
--- them a refused walk stops.
-use mathlib.Core.Path.{_≡_}
+-- The nodes that a walk visits, in the order of the visits: the way of the walk, with the nodes kept.
 use mathlib.Core.List.{List, [], _∷_, _++_}
-use Prim.Native.Nat.{ℕ, zero, suc, _+_}
-use lib.ListN.{length}
+use Prim.Native.Nat.{ℕ, zero, suc}
 use Rattle.rules.specs.declared.Next.{Next}
 use Rattle.rules.specs.declared.Next.the-variants.{Left, Spent}
-use Rattle.rules.specs.declared.Refusal.{Refusal}
 use Rattle.rules.specs.declared.Tally.{Tally}
 use Rattle.rules.specs.Walk.{next, Visit, refuse, finish, pass, halve, Walked, ended, over, spent, refused, walk}
 
@@ -38,23 +34,7 @@ module _ {S N : Type 0} where
       n ∷ nodesHalved (visit n) λ l r.
       nodesOfBoth (visitsOf visit levels l s v) (walk visit levels l s v) (λ s′ v′. visitsOf visit levels r s′ v′)
 
-  -- a visit does not refuse
-  abbrev pub Accepts : Visit S N → Type 0
-  Accepts (refuse number line place) = ⊥
-  Accepts finish = Unit {0}
-  Accepts (pass f) = Unit {0}
-  Accepts (halve l r) = Unit {0}
-
 -- each of a list has P
 abbrev pub Each : {N : Type 0} → (N → Type 0) → List N → Type 0
 Each P [] = Unit {0}
 Each P (n ∷ ns) = P n × Each P ns
-
--- of the nodes that are visited from tally y on, the last one's visit refuses and no other does; each visit is counted
-pub record RefusedLast {S N : Type 0} (visit : N → Visit S N) (nodes : List N) (y : Tally) (r : Refusal) : Type 0 where
-  pub before : List N
-  pub last : N
-  pub parts : nodes ≡ before ++ last ∷ []
-  pub earlier : Each (λ n. Accepts (visit n)) before
-  pub refusing : visit last ≡ refuse (r .number) (r .line) (r .place)
-  pub counted : r .visits ≡ y .visits + length nodes

@@ -13,11 +13,13 @@ use Rattle.rules.specs.declared.Point.{Point}
 use Rattle.rules.specs.declared.Tally.{Tally}
 use Rattle.rules.specs.Sheet.{point, pointsOf, segmentsOf}
 use Rattle.rules.specs.Plain.{within, share, onSegment, crosses}
-use Rattle.rules.specs.Reply.{Reply, firstRefusal, orRefused}
+use Rattle.rules.specs.declared.Reply.{Reply}
+use Rattle.rules.specs.Reply.{firstRefusal, orRefused}
 use Rattle.rules.specs.Walk.{Visit, finish, pass, halve, Walked, fresh, walk}
-use Rattle.rules.specs.Questions.{root, leftOf, rightOf, leaf, size, Nothing, splitIn, readRow, startOf, endOf, nearChecks, meetChecks, inChecks, agreeChecks}
-use Rattle.rules.specs.Questions.{headingOf, farFrom, yesOrNo, apart, clearOf, count, sideOfRing, Asked, allNear}
-use Rattle.rules.specs.Questions.{askPoint, onNear, onAllNear, agreed}
+use Rattle.rules.specs.Questions.{root, leftOf, rightOf, leaf, size, Nothing, splitIn, readRow, startOf, endOf}
+use Rattle.rules.specs.Questions.{headingOf, farFrom, yesOrNo, nearChecks, apart, meetChecks, clearOf, count}
+use Rattle.rules.specs.Questions.{sideOfRing, inChecks, Asked, allNear, askPoint, onNear, onAllNear, agreeChecks}
+use Rattle.rules.specs.Questions.{agreed}
 
 -- ---- NEAR
 unfoldable pub nearVisitUnchecked : Line → List ℤ → List ℤ → Point → ℤ → Node → Visit Nothing Node

@@ -1,57 +1,65 @@
 -- A direction d, and points strictly behind z in it: 0 < d·(z − p). Over such points the crossing rule counts ends, not
 -- places: a segment crosses where exactly one of its ends is marked. By the identity, for a low end l and a high end h,
 --     dx·side = −((yh − zy)·d·(z − l) + (zy − yl)·d·(z − h)),
--- which says that such a segment passes to the right of z exactly when dx ≤ 0.
+-- which says that such a segment passes to the right of z exactly when dx ≤ 0. So a run of such points counts as its
+-- chord alone: the marks of inner points come twice and drop out.
 use mathlib.Core.Path.{_≡_, refl, sym, _∙_, ap}
 use mathlib.Core.Bool.{Bool, true, false, not, _&&_, _||_}
-use mathlib.Core.List.{[], _∷_}
-use mathlib.Core.Logic.{⊎-elim}
-use lib.IntN.{ℤ, pos, _*ℤ_}
-use lib.Signed.{leZ, ltZ, _≤ℤ_, _<ℤ_}
-use Rattle.whole.specs.Poly.{con, _:+_, _:*_, _:-_}
-use Rattle.whole.specs.Check.{_:≤_, _:<_, hyp, num, mul, _⊞_, _⊠_, prove, refute}
-use Rattle.whole.specs.Order.{≤ℤ-or-<ℤ, lt-true, lt-false, le-true, le-false, le-not, lt-yes, lt-no, no-T}
+use mathlib.Core.List.{List, [], _∷_}
+use Prim.Native.Nat.{ℕ, zero, suc, _+_, _≤_, _<_}
+use native.Mathlib.Omega.{arith}
+use lib.IntN.{ℤ, pos}
+use lib.Signed.{leZ, ltZ, _<ℤ_, leZ-yes, ltZ-yes}
+use Rattle.integers.specs.Poly.{Expr, con, _:+_, _:*_, _:-_}
+use Rattle.integers.specs.Check.{Stmt, _:≤_, _:<_, Cert, hyp, num, mul, _⊞_, _⊠_}
+use Rattle.integers.specs.Order.{T-iff, le-not, lt-yes, lt-no, no-T}
 use Rattle.rules.specs.declared.Point.{Point}
 use Rattle.rules.specs.Plane.{tAt}
-use Rattle.rules.specs.Plain.{onSegment, sideOf, crosses, _⊕_}
+use Rattle.rules.specs.Sheet.{point}
+use Rattle.rules.specs.Plain.{onSegment, sideOf, crosses, joined, _⊕_, oddOf, segmentHolds, segmentCrosses}
+use Rattle.visits.proofs.Tests.{≤ℤ-unless, <ℤ-unless}
+use Rattle.visits.proofs.Points.{PointE, tAtE, refute-of}
+use Rattle.visits.proofs.Weights.{mean-above}
+use Rattle.visits.proofs.Counts.{joined-same}
 use Rattle.ring_truth.specs.OnEdge.{Lies}
-use Rattle.ring_truth.proofs.Forms.{meanE, behindE}
-use Rattle.ring_truth.proofs.OnEdge.{on-lies}
+use Rattle.ring_truth.proofs.OnEdge.{meanE, on-lies}
 
 -- p is strictly behind z in the direction d
-pub record Behind (d z p : Point) : Type 0 where
-  pub ahead : pos 0 <ℤ tAt p d z
+abbrev pub Behind : Point → Point → Point → Type 0
+Behind d z p = pos 0 <ℤ tAt p d z
+
+abbrev behindE : PointE → PointE → PointE → Stmt
+behindE d z p = con (pos 0) :< tAtE p d z
 
 -- p is marked: it is above z, and d does not point to the right
-abbrev pub mark : Point → Point → Point → Bool
+abbrev mark : Point → Point → Point → Bool
 mark d z p = leZ (d .x) (pos 0) && ltZ (z .y) (p .y)
 
 -- ---------------- the side of a low end l and a high end h
 
--- of two numbers with a product below 0, one is above 0 exactly when the other is not
-opposite : (a k : ℤ) → (a *ℤ k) <ℤ pos 0 → ltZ (pos 0) k ≡ leZ a (pos 0)
-opposite a k h =
-    ⊎-elim (λ q. lt-true (⊎-elim (λ r. absurd (both-low a k h q r)) (λ r. r) (≤ℤ-or-<ℤ k (pos 0))) ∙ sym (le-true q))
-    (λ q. lt-false (⊎-elim (λ r. r) (λ r. absurd (both-high a k h q r)) (≤ℤ-or-<ℤ k (pos 0))) ∙ sym (le-false q))
-    (≤ℤ-or-<ℤ a (pos 0))
-  where
-    both-low : (a k : ℤ) → (a *ℤ k) <ℤ pos 0 → a ≤ℤ pos 0 → k ≤ℤ pos 0 → ⊥
-    both-low = refute 2 (λ a k. ((a :* k :< con (pos 0)) ∷ (a :≤ con (pos 0)) ∷ (k :≤ con (pos 0)) ∷ [], hyp 0 ⊞ hyp 1 ⊠ hyp 2)) tt
+-- l is low and h is high, both behind z; and that then dx·side is below 0, by the identity
+abbrev acrossE : PointE → PointE → PointE → PointE → List Stmt → List Stmt
+acrossE d z l h more = (l .y :≤ z .y) ∷ (z .y :< h .y) ∷ behindE d z l ∷ behindE d z h ∷ more
 
-    both-high : (a k : ℤ) → (a *ℤ k) <ℤ pos 0 → pos 0 <ℤ a → pos 0 <ℤ k → ⊥
-    both-high =
-        refute 2 (λ a k. ((a :* k :< con (pos 0)) ∷ (con (pos 0) :< a) ∷ (con (pos 0) :< k) ∷ [], hyp 0 ⊞ hyp 1 ⊠ hyp 2 ⊞ hyp 1 ⊞ hyp 2 ⊞ num 1)) tt
+abbrev product-below : Cert
+product-below = hyp 1 ⊠ hyp 2 ⊞ hyp 1 ⊞ hyp 2 ⊞ hyp 0 ⊠ hyp 3 ⊞ hyp 0
+
+abbrev sideE : PointE → PointE → PointE → Expr
+sideE z l h = (h .x :- l .x) :* (z .y :- l .y) :- (z .x :- l .x) :* (h .y :- l .y)
 
 -- the segment passes to the right of z exactly when d does not point to the right
 side-sign : (d z l h : Point) → Behind d z l → Behind d z h → ltZ (z .y) (l .y) ≡ false → ltZ (z .y) (h .y) ≡ true
     → ltZ (pos 0) (sideOf z l h) ≡ leZ (d .x) (pos 0)
 side-sign d z l h bl bh low high =
-    opposite (d .x) (sideOf z l h)
-    (prove 8 (λ dx dy zx zy lx ly hx hy. (
-      (ly :≤ zy) ∷ (zy :< hy) ∷ behindE lx ly dx dy zx zy ∷ behindE hx hy dx dy zx zy ∷ [],
-      dx :* ((hx :- lx) :* (zy :- ly) :- (zx :- lx) :* (hy :- ly)) :< con (pos 0),
-      hyp 1 ⊠ hyp 2 ⊞ hyp 1 ⊞ hyp 2 ⊞ hyp 0 ⊠ hyp 3 ⊞ hyp 0,
-    )) tt (d .x) (d .y) (z .x) (z .y) (l .x) (l .y) (h .x) (h .y) (lt-no refl refl low) (lt-yes refl refl high) (bl .ahead) (bh .ahead))
+    T-iff (ltZ (pos 0) (sideOf z l h)) (leZ (d .x) (pos 0))
+    (λ t. ≤ℤ-unless {a = d .x} {b = pos 0} (λ q. refute-of 4 0 (λ d z l h. (
+      acrossE d z l h ((con (pos 0) :< d .x) ∷ (con (pos 0) :< sideE z l h) ∷ []),
+      product-below ⊞ (hyp 4 ⊞ num 1) ⊠ (hyp 5 ⊞ num 1),
+    )) tt d z l h (lt-no refl refl low) (lt-yes refl refl high) bl bh q (ltZ-yes t)) .le)
+    (λ t. <ℤ-unless {a = pos 0} {b = sideOf z l h} (refute-of 4 0 (λ d z l h. (
+      acrossE d z l h ((d .x :≤ con (pos 0)) ∷ (sideE z l h :≤ con (pos 0)) ∷ []),
+      product-below ⊞ hyp 4 ⊠ hyp 5,
+    )) tt d z l h (lt-no refl refl low) (lt-yes refl refl high) bl bh (leZ-yes t)) .lt)
 
 -- ---------------- one segment
 
@@ -69,23 +77,59 @@ by-ends false false false r s f g = refl
 
 module _ (d z a b : Point) (ba : Behind d z a) (bb : Behind d z b) where
   -- a segment behind z crosses where exactly one of its ends is marked
-  pub crosses-marks : crosses z a b ≡ mark d z a ⊕ mark d z b
+  crosses-marks : crosses z a b ≡ mark d z a ⊕ mark d z b
   unfolding crosses
   crosses-marks =
       (λ i. le-not (a .y) (z .y) i && ltZ (z .y) (b .y) && ltZ (pos 0) (sideOf z a b)
       || le-not (b .y) (z .y) i && ltZ (z .y) (a .y) && ltZ (pos 0) (sideOf z b a))
-      ∙ by-ends (leZ (d .x) (pos 0)) (ltZ (z .y) (a .y)) (ltZ (z .y) (b .y)) _ _ (side-sign d z a b ba bb) (side-sign d z b a bb ba)
+      ∙ by-ends (leZ (d .x) (pos 0)) (ltZ (z .y) (a .y)) (ltZ (z .y) (b .y)) _ _ (side-sign d z a b ba bb)
+      (side-sign d z b a bb ba)
 
-  -- a segment behind z does not hold z
-  pub off-segment : onSegment z a b ≡ false
+  -- a segment behind z does not hold z: a mean of d·(z − a) and d·(z − b) is above 0
+  off-segment : onSegment z a b ≡ false
   off-segment = no-T (onSegment z a b) (λ t. off (on-lies z a b .0 t))
     where
       off : Lies z a b → ⊥
       off l =
-          refute 10 (λ p q dx dy zx zy ax ay bx by. (
-            (con (pos 0) :≤ p) ∷ (con (pos 0) :≤ q) ∷ (con (pos 0) :< p :+ q)
-                ∷ meanE p q ax bx zx ∷ meanE p q ay by zy
-                ∷ behindE ax ay dx dy zx zy ∷ behindE bx by dx dy zx zy ∷ [],
-            hyp 0 ⊠ hyp 5 ⊞ hyp 1 ⊠ hyp 6 ⊞ hyp 2 ⊞ mul dx 3 ⊞ mul dy 4,
-          )) tt (l .p) (l .q) (d .x) (d .y) (z .x) (z .y) (a .x) (a .y) (b .x) (b .y)
-          (l .startWeight) (l .endWeight) (l .weighs) (l .meanX) (l .meanY) (ba .ahead) (bb .ahead)
+          let w = l .weights in
+          refute-of 4 2 (λ d z a b p q. (
+            ((p :+ q) :* con (pos 0) :< p :* tAtE a d z :+ q :* tAtE b d z)
+                ∷ meanE p q (a .x) (b .x) (z .x) ∷ meanE p q (a .y) (b .y) (z .y) ∷ [],
+            hyp 0 ⊞ mul (d .x) 1 ⊞ mul (d .y) 2,
+          )) tt d z a b (w .p) (w .q) (mean-above w (pos 0) (tAt a d z) (tAt b d z) ba bb)
+          (ap (λ v. v .x) (l .mean)) (ap (λ v. v .y) (l .mean))
+
+-- ---------------- a run
+
+-- what stands between comes twice
+⊕-chain : (a b c : Bool) → a ⊕ b ⊕ (b ⊕ c) ≡ a ⊕ c
+⊕-chain true true true = refl
+⊕-chain true true false = refl
+⊕-chain true false c = refl
+⊕-chain false true true = refl
+⊕-chain false true false = refl
+⊕-chain false false c = refl
+
+-- an odd number of changes from i to i + k is a change between the two
+telescope : (m : ℕ → Bool) (i k j : ℕ) → i + k ≡ j → oddOf (λ j. m j ⊕ m (suc j)) i k ≡ m i ⊕ m j
+unfolding joined
+telescope m i zero j e = ⊕-self (m i) ∙ ap (λ (j : ℕ). m i ⊕ m j) (omega arith)
+  where
+    ⊕-self : (a : Bool) → false ≡ a ⊕ a
+    ⊕-self true = refl
+    ⊕-self false = refl
+telescope m i (suc k) j e =
+    ap (λ (b : Bool). m i ⊕ m (suc i) ⊕ b) (telescope m (suc i) k j (omega arith)) ∙ ⊕-chain (m i) (m (suc i)) (m j)
+
+module _ (ps : List ℤ) (z d : Point) (i k : ℕ) (behind : (j : ℕ) → i ≤ j → j ≤ i + k → Behind d z (point ps j)) where
+  -- the run counts as its chord
+  pub run-chord : oddOf (segmentCrosses ps z) i k ≡ crosses z (point ps i) (point ps (i + k))
+  run-chord =
+      joined-same _⊕_ false (segmentCrosses ps z) (λ j. mark d z (point ps j) ⊕ mark d z (point ps (suc j))) i k
+      (λ j l m. crosses-marks d z _ _ (behind j l (omega arith)) (behind (suc j) (omega arith) m))
+      ∙ telescope (λ j. mark d z (point ps j)) i k (i + k) refl
+      ∙ sym (crosses-marks d z _ _ (behind i (omega arith) (omega arith)) (behind (i + k) (omega arith) (omega arith)))
+
+  -- and none of its segments holds z
+  pub run-off : (j : ℕ) → i ≤ j → j < i + k → segmentHolds ps z j ≡ false
+  run-off j l m = off-segment d z _ _ (behind j l (omega arith)) (behind (suc j) (omega arith) m)

@@ -1,4 +1,4 @@
 -- What the answers of IN mean.
 pub mod OnEdge
 pub mod Truth
-pub mod Turned
+pub mod Restarted

@@ -4,9 +4,8 @@ use mathlib.Core.Bool.{Bool, true, false, not, cond, _&&_, and-assoc, and-true, 
 use mathlib.Core.List.{List}
 use Prim.Native.Nat.{ℕ}
 use lib.Dec.{T}
-use lib.IntN.{ℤ, pos}
-use lib.Signed.{ltZ}
-use Rattle.whole.specs.Order.{yes-T}
+use lib.IntN.{ℤ}
+use Rattle.integers.specs.Order.{yes-T}
 use Rattle.rules.specs.declared.Row.{Row}
 use Rattle.rules.specs.Plane.{eqZ, samePoint}
 use Rattle.rules.specs.Sheet.{point, onSheet}
@@ -22,11 +21,12 @@ lastRule ps r first last =
 pub good-parts : (ps : List ℤ) (r : Row) (first last : ℕ) →
     good ps r first last
     ≡ rangeGood r first last
-    && (stripGood r && (boxGood r && (onSheet (point ps first) && (onSheet (point ps last) && lastRule ps r first last))))
+    && (stripGood r
+    && (boxGood r && (onSheet (point ps first) && (onSheet (point ps last) && lastRule ps r first last))))
 unfolding good
 good-parts ps r first last =
-    regroup (isLeaf first last) (rangeGood r first last) (eqZ (r .split) noSplit) (ltZ (pos first) (r .split) && ltZ (r .split) (pos last))
-    (stripGood r) (boxGood r) (onSheet (point ps first)) (onSheet (point ps last)) (samePoint (point ps first) (point ps last))
+    regroup (isLeaf first last) (rangeGood r first last) (eqZ (r .split) noSplit) (splitFits r first last) (stripGood r)
+    (boxGood r) (onSheet (point ps first)) (onSheet (point ps last)) (samePoint (point ps first) (point ps last))
   where
     regroup : (leaf a none inside b c d e same : Bool) →
         a && cond leaf none inside && b && c && (d && e) && not (leaf && same)
@@ -36,7 +36,7 @@ good-parts ps r first last =
     regroup false a none true b c d e same = simp (and-assoc, and-true)
     regroup false a none false b c d e same = simp (and-assoc, and-false)
 
--- a node that begins or ends off the sheet has no good row; of one that does neither, the frame and the last rule are asked
+-- a node that begins or ends off the sheet has no good row; of one that does neither, frame and last rule are asked
 module _ (ps : List ℤ) (r : Row) (first last : ℕ) where
   abbrev asked : Bool → Bool → Bool
   asked start end =

@@ -8,46 +8,47 @@ use lib.IntN.{ℤ}
 use mir.Facts.{and-yes}
 use Rattle.rules.specs.declared.Line.{Line}
 use Rattle.rules.specs.declared.Node.{Node}
-use Rattle.rules.specs.Sheet.{point, segmentsOf, onSheet}
+use Rattle.rules.specs.Sheet.{most, point, segmentsOf, onSheet}
+use Rattle.rules.specs.Tree.{mostRows}
 use Rattle.rules.specs.Rows.{endsGood}
-use Rattle.rules.specs.Tree.{rowCount}
 use Rattle.rules.specs.Walk.{Visit}
 use Rattle.rules.specs.Questions.{root, leftOf, rightOf, openNode}
-use Rattle.visits.proofs.Nodes.{Fits, root-fits, fits-row, fits-left, fits-right, open-fits}
-use Rattle.line.specs.Fine.{LengthsFine}
+use Rattle.visits.specs.Fine.{LengthsFine}
+use Rattle.visits.specs.Nodes.{Inner}
+use Rattle.visits.proofs.Nodes.{root-fits, fits-row, fits-left, fits-right, open-fits}
 use Rattle.row.specs.Stands.{Stands, EndsOn}
 
 pub root-stands : {ps t : List ℤ} → LengthsFine ps t → Stands ps t (root ps)
-root-stands {ps} f =
-    let h = root-fits ps (omega (arith, f .some-points)) in record { fine = f; some-segment = h .some-segment; points-in = omega arith; rows-in = h .below }
+root-stands {ps} f = record { fine = f; fits = root-fits ps (omega (arith, f .some-points)); points-in = omega arith }
 
 module _ {ps t : List ℤ} {n : Node} (h : Stands ps t n) where
-  fits : Fits (rowCount (segmentsOf ps)) n
-  fits = record { some-segment = h .some-segment; below = h .rows-in }
-
-  pub row-small : n .row < 8193
-  row-small = let b = fits-row _ _ fits in omega (arith, h .fine .not-more)
+  pub row-small : n .row < mostRows
+  row-small = omega (arith, fits-row (h .fits), h .fine .not-more)
 
   module _ {s : ℕ} (low : n .first < s) (high : s < n .last) where
+    inner : Inner (n .first) s (n .last)
+    inner = record { above = low; below = high }
+
     pub left-stands : Stands ps t (leftOf n s)
-    left-stands =
-        let f = fits-left _ n fits s low high in
-        record { fine = h .fine; some-segment = f .some-segment; points-in = omega (arith, h .points-in); rows-in = f .below }
+    left-stands = record { fine = h .fine; fits = fits-left (h .fits) inner; points-in = omega (arith, h .points-in) }
 
     pub right-stands : Stands ps t (rightOf n s)
-    right-stands = let f = fits-right _ n fits s low high in record { fine = h .fine; some-segment = f .some-segment; points-in = h .points-in; rows-in = f .below }
+    right-stands = record { fine = h .fine; fits = fits-right (h .fits) inner; points-in = h .points-in }
 
-    pub split-small : s < 4097
+    pub split-small : s < most
     split-small = omega (arith, h .points-in, h .fine .not-more)
 
     -- and room for its children's rows: refusal 11 does not come
-    pub opens : {S N : Type 0} (l : Line) (go : Node → Node → Visit S N) → openNode l ps n s go ≡ go (leftOf n s) (rightOf n s)
-    opens l go = open-fits l ps n s go fits low high
+    pub opens : {S N : Type 0} (l : Line) (go : Node → Node → Visit S N)
+        → openNode l ps n s go ≡ go (leftOf n s) (rightOf n s)
+    opens l go = open-fits l ps go (h .fits) inner
 
--- ---------------- where a line begins and ends on the sheet so does its root, and so do halves that share a point on it
+-- ---------------- where a line begins and ends on the sheet so does its root, and so do halves that share a point on
+-- it
 pub root-ends : {ps : List ℤ} → T (endsGood ps 0 (segmentsOf ps)) → EndsOn ps (root ps)
 root-ends {ps} h =
-    let k = and-yes (onSheet (point ps 0)) (onSheet (point ps (segmentsOf ps))) h in record { start-on = k .0; end-on = k .1 }
+    let k = and-yes (onSheet (point ps 0)) (onSheet (point ps (segmentsOf ps))) h in
+    record { start-on = k .0; end-on = k .1 }
 
 module _ {ps : List ℤ} {n : Node} (h : EndsOn ps n) {s : ℕ} (on : T (onSheet (point ps s))) where
   pub left-ends : EndsOn ps (leftOf n s)

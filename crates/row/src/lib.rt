@@ -1,13 +1,15 @@
-// Rows as the machine reads them: a row out of a table, and the row rules of refusal 10. Every function says its result by a
-// definition of `rules`.
-use line::LIMIT;
+// Rows as the machine reads them: a row out of a table, and the row rules of refusal 10. Every function says its result
+// by a definition of `rules`.
+use integers::wide;
+use limits::LIMIT;
+use limits::WIDTH;
+use limits::column;
 use line::on_sheet;
 use line::on_sheet_at;
 use line::point_at;
 use line::same_point;
 use rules::Point;
 use rules::Row;
-use whole::wide;
 ghost use mathlib.Core.Path.{_≡_};
 ghost use mathlib.Core.Bool.{_&&_};
 ghost use Prim.Native.Nat.{_+_, _*_, _<_, _≤_};
@@ -15,35 +17,42 @@ ghost use lib.Dec.{T};
 ghost use lib.IntN.{pos};
 ghost use lib.ListN.{length};
 ghost use lib.Signed.{leZ, _≤ℤ_};
-ghost use Rattle.rules.specs.Tree.{width, rowAt};
-ghost use Rattle.rules.specs.Sheet.{point, pointsOf, segmentsOf, onSheet};
+ghost use Rattle.rules.specs.Tree.{width, numberAt, rowAt};
+ghost use Rattle.rules.specs.Sheet.{fewest, most, point, pointsOf, segmentsOf, onSheet};
 ghost use Rattle.rules.specs.Rows.{rangeGood, stripGood, sideGood, boxGood, endsGood, good};
 ghost use Rattle.rules.specs.Questions.{splitIn};
 ghost use Rattle.row.specs.Parts.{frameGood, leafFits, splitFits};
+
+// Number k of row r.
+fn number_at(table: &[i32], r: usize, k: usize) -> i64
+    requires { ⌜ (k < width) × (width * r + width ≤ length (now table)) ⌝ }
+    ensures { λ v. ⌜ v ≡ numberAt (now (table .entry)) r k ⌝ }
+{
+    wide(table[WIDTH * r + k])
+}
 
 // Row r of a table.
 pub fn row_at(table: &[i32], r: usize) -> Row
     requires { ⌜ width * r + width ≤ length (now table) ⌝ }
     ensures { λ row. ⌜ row ≡ rowAt (now (table .entry)) r ⌝ }
 {
-    let at = 11 * r;
     Row {
-        first: wide(table[at]),
-        last: wide(table[at + 1]),
-        split: wide(table[at + 2]),
-        cmin: wide(table[at + 3]),
-        cmax: wide(table[at + 4]),
-        tmin: wide(table[at + 5]),
-        tmax: wide(table[at + 6]),
-        xmin: wide(table[at + 7]),
-        xmax: wide(table[at + 8]),
-        ymin: wide(table[at + 9]),
-        ymax: wide(table[at + 10]),
+        first: number_at(table, r, column::FIRST),
+        last: number_at(table, r, column::LAST),
+        split: number_at(table, r, column::SPLIT),
+        cmin: number_at(table, r, column::CMIN),
+        cmax: number_at(table, r, column::CMAX),
+        tmin: number_at(table, r, column::TMIN),
+        tmax: number_at(table, r, column::TMAX),
+        xmin: number_at(table, r, column::XMIN),
+        xmax: number_at(table, r, column::XMAX),
+        ymin: number_at(table, r, column::YMIN),
+        ymax: number_at(table, r, column::YMAX),
     }
 }
 
 fn range_good(r: Row, first: usize, last: usize) -> bool
-    requires { ⌜ (first < last) × (last < 4097) ⌝ }
+    requires { ⌜ (first < last) × (last < most) ⌝ }
     ensures { λ g. ⌜ g ≡ rangeGood r first last ⌝ }
 {
     r.first == first as i64 && r.last == last as i64
@@ -51,7 +60,7 @@ fn range_good(r: Row, first: usize, last: usize) -> bool
 
 // A node of more segments splits strictly inside its range.
 pub fn splits_inside(r: Row, first: usize, last: usize) -> bool
-    requires { ⌜ (first < last) × (last < 4097) ⌝ }
+    requires { ⌜ (first < last) × (last < most) ⌝ }
     ensures { λ g. ⌜ g ≡ splitFits r first last ⌝ }
 {
     (first as i64) < r.split && r.split < last as i64
@@ -84,7 +93,7 @@ fn box_good(r: Row) -> bool
 
 // The rules that ask for no point: the range handed down, a strip that holds the start, a box on the sheet.
 pub fn frame_good(r: Row, first: usize, last: usize) -> bool
-    requires { ⌜ (first < last) × (last < 4097) ⌝ }
+    requires { ⌜ (first < last) × (last < most) ⌝ }
     ensures { λ g. ⌜ g ≡ frameGood r first last ⌝ }
 {
     if !range_good(r, first, last) {
@@ -102,7 +111,7 @@ pub fn leaf_good(r: Row, a: Point, b: Point) -> bool
 
 // Whether a row is good whose node is known to begin and end on the sheet.
 pub fn good_between(points: &[i32], r: Row, first: usize, last: usize) -> bool
-    requires { ⌜ (first < last) × (last < 4097) × (2 * last + 1 < length (now points)) ⌝ }
+    requires { ⌜ (first < last) × (last < most) × (2 * last + 1 < length (now points)) ⌝ }
     requires { ⌜ T (onSheet (point (now points) first)) × T (onSheet (point (now points) last)) ⌝ }
     ensures { λ g. ⌜ g ≡ good (now (points .entry)) r first last ⌝ }
 {
@@ -117,7 +126,7 @@ pub fn good_between(points: &[i32], r: Row, first: usize, last: usize) -> bool
 
 // Whether a row is good whose node is known to begin on the sheet.
 pub fn good_from(points: &[i32], r: Row, first: usize, last: usize) -> bool
-    requires { ⌜ (first < last) × (last < 4097) × (2 * last + 1 < length (now points)) ⌝ }
+    requires { ⌜ (first < last) × (last < most) × (2 * last + 1 < length (now points)) ⌝ }
     requires { ⌜ T (onSheet (point (now points) first)) ⌝ }
     ensures { λ g. ⌜ g ≡ good (now (points .entry)) r first last ⌝ }
 {
@@ -126,7 +135,7 @@ pub fn good_from(points: &[i32], r: Row, first: usize, last: usize) -> bool
 
 // Whether a row that is read at a visit is good, for the range handed down.
 pub fn row_good(points: &[i32], r: Row, first: usize, last: usize) -> bool
-    requires { ⌜ (first < last) × (last < 4097) × (2 * last + 1 < length (now points)) ⌝ }
+    requires { ⌜ (first < last) × (last < most) × (2 * last + 1 < length (now points)) ⌝ }
     ensures { λ g. ⌜ g ≡ good (now (points .entry)) r first last ⌝ }
 {
     on_sheet(point_at(points, first)) && good_from(points, r, first, last)
@@ -134,7 +143,7 @@ pub fn row_good(points: &[i32], r: Row, first: usize, last: usize) -> bool
 
 // Whether a line begins and ends on the sheet.
 pub fn ends_on_sheet(points: &[i32]) -> bool
-    requires { ⌜ 2 ≤ pointsOf (now points) ⌝ }
+    requires { ⌜ fewest ≤ pointsOf (now points) ⌝ }
     ensures { λ g. ⌜ g ≡ endsGood (now (points .entry)) 0 (segmentsOf (now (points .entry))) ⌝ }
 {
     let last = points.len() / 2 - 1;

@@ -1,9 +1,8 @@
--- Document 01, "Figures to hold": P1 to P12 of the definitions, as one list under one theorem; and one small example for each
--- of the "slips that look right" that the figures do not reach. All by computation.
+-- Document 01, "Figures to hold": P1 to P12 of the definitions, as one list under one theorem; and one small example
+-- for each of the "slips that look right" that the figures do not reach. All by computation.
 use mathlib.Core.Path.{_≡_, refl}
-use mathlib.Core.Bool.{Bool, true, false}
+use mathlib.Core.Bool.{true, false}
 use mathlib.Core.List.{List, [], _∷_}
-use mathlib.Core.Option.{none, some}
 use Prim.Native.Nat.{ℕ}
 use lib.IntN.{ℤ, pos, negsuc}
 use Rattle.rules.specs.declared.Line.the-variants.{LineB}
@@ -11,11 +10,15 @@ use Rattle.rules.specs.declared.Point.{Point}
 use Rattle.rules.specs.Plane.{direction}
 use Rattle.rules.specs.Sheet.{between}
 use Rattle.rules.specs.Tree.{least, greatest, height, better, best, splitOf, rowAt, measured, rowsOf}
-use Rattle.rules.specs.Plain.{within, share, onSegment, crosses, joined, plainNear, plainMeet, plainOn, plainInside, plainAgree}
-use Rattle.rules.specs.Reply.{Reply, YES, NO, INSIDE, OUTSIDE, ON, UNDECIDED, says, disagrees}
+use Rattle.rules.specs.Plain.{within, share, onSegment, crosses, joined, plainNear, plainMeet, plainOn}
+use Rattle.rules.specs.Plain.{plainInside, plainAgree}
+use Rattle.rules.specs.declared.Word.the-variants.{YES, NO, INSIDE, OUTSIDE, ON, UNDECIDED}
+use Rattle.rules.specs.declared.Reply.{Reply}
+use Rattle.rules.specs.Reply.{says, disagrees}
 use Rattle.rules.specs.Walk.{walk}
 use Rattle.rules.specs.Rows.{good}
-use Rattle.rules.specs.Questions.{shortfall, farFrom, nearVisit, nearReply, beyondCorners, apart, meetVisit, meetReply, clearOf, inVisit, inReply, askAll, agreeWalk, agreeReply}
+use Rattle.rules.specs.Questions.{shortfall, farFrom, nearVisit, nearReply, beyondCorners, apart, meetVisit}
+use Rattle.rules.specs.Questions.{meetReply, clearOf, inVisit, inReply, askAll, agreeWalk, agreeReply}
 use Rattle.rules.specs.Build.{lowest, buildRefusal, tableOf, builtTable}
 
 abbrev at : ℕ → ℕ → Point
@@ -62,8 +65,9 @@ pub P1-to-P12 :
     × (ring (at 4 2) ≡ says ON 4)  -- P10
     × (ring (at 5 2) ≡ says OUTSIDE 1)  -- P11
     × (ring (at 3 1) ≡ says INSIDE 5)  -- P12
-unfolding tableOf rowsOf measured splitOf best better height least greatest rowAt direction between within share onSegment crosses
-    walk good shortfall farFrom nearVisit nearReply beyondCorners apart meetVisit meetReply clearOf inVisit inReply
+unfolding tableOf rowsOf measured splitOf best better height least greatest rowAt direction between within share
+    onSegment crosses walk good shortfall farFrom nearVisit nearReply beyondCorners apart meetVisit meetReply clearOf
+    inVisit inReply
 P1-to-P12 = (refl, refl, refl, refl, refl, refl, refl, refl, refl, refl, refl, refl, refl)
 
 -- ---- slips that look right, and that P1 to P12 do not reach
@@ -72,8 +76,8 @@ abbrev R : List ℤ
 R = pos 4 ∷ pos 0 ∷ pos 8 ∷ pos 4 ∷ pos 4 ∷ pos 8 ∷ pos 0 ∷ pos 4 ∷ pos 4 ∷ pos 0 ∷ []
 
 pub corner-counts-once : (plainInside R (at 4 4) ≡ true) × (inReply R (tableOf R) (at 4 4) 99 .word ≡ INSIDE)
-unfolding tableOf rowsOf measured splitOf best better height least greatest rowAt direction between onSegment crosses joined
-    walk good clearOf inVisit inReply plainInside
+unfolding tableOf rowsOf measured splitOf best better height least greatest rowAt direction between onSegment crosses
+    joined walk good clearOf inVisit inReply plainInside
 corner-counts-once = (refl, refl)
 
 -- agreement is asked both ways: a stub does not agree with a long line, though each of its points is on it
@@ -120,7 +124,8 @@ unfolding tableOf rowsOf measured splitOf best better height least greatest rowA
     walk good clearOf inVisit inReply
 closed-run-heads-along-x = (refl, refl)
 
--- building writes the rows of the line and leaves what stands past them; refused, for a table one number short, it writes nothing
+-- building writes the rows of the line and leaves what stands past them; refused, for a table one number short, it
+-- writes nothing
 abbrev ten : List ℤ
 ten = pos 7 ∷ pos 7 ∷ pos 7 ∷ pos 7 ∷ pos 7 ∷ pos 7 ∷ pos 7 ∷ pos 7 ∷ pos 7 ∷ pos 7 ∷ []
 
@@ -128,5 +133,6 @@ pub builds-all-or-nothing :
     (builtTable N (pos 7 ∷ pos 7 ∷ ten)
     ≡ pos 0 ∷ pos 1 ∷ negsuc 0 ∷ pos 0 ∷ pos 0 ∷ pos 0 ∷ pos 9 ∷ pos 4 ∷ pos 4 ∷ pos 0 ∷ pos 3 ∷ pos 7 ∷ [])
     × (builtTable N ten ≡ ten)
-unfolding builtTable buildRefusal lowest tableOf rowsOf measured splitOf best better height least greatest direction between
+unfolding builtTable buildRefusal lowest tableOf rowsOf measured splitOf best better height least greatest direction
+    between
 builds-all-or-nothing = (refl, refl)

@@ -1,5 +1,6 @@
--- Document 01: building refused writes nothing; else the table is the described one, and numbers past its rows stay unchanged.
--- And what a table must be for its answers to be right, whoever wrote it: its rows are good and hold their points.
+-- Document 01: building refused writes nothing; else the table is the described one, and numbers past its rows stay
+-- unchanged. And what a table must be for its answers to be right, whoever wrote it: its rows are good and hold their
+-- points.
 use mathlib.Core.Bool.{Bool, true, not, cond, _&&_}
 use mathlib.Core.List.{List, [], _∷_, _++_}
 use mathlib.Core.Option.{Option, none, some}
@@ -35,12 +36,14 @@ equalNext ps i = samePoint (point ps i) (point ps (suc i))
 -- 4 coordinate off the sheet, at the lowest point
 abbrev pub sheetCheck : List ℤ → Check
 sheetCheck ps =
-    let i = lowest (offSheet ps) 0 (pointsOf ps) in record { holds = ltb i (pointsOf ps); number = 4; line = LineA; place = i }
+    let i = lowest (offSheet ps) 0 (pointsOf ps) in
+    record { holds = ltb i (pointsOf ps); number = 4; line = LineA; place = i }
 
 -- 5 two neighbours equal, after all of 4, at the lower point
 abbrev pub neighbourCheck : List ℤ → Check
 neighbourCheck ps =
-    let i = lowest (equalNext ps) 0 (segmentsOf ps) in record { holds = ltb i (segmentsOf ps); number = 5; line = LineA; place = i }
+    let i = lowest (equalNext ps) 0 (segmentsOf ps) in
+    record { holds = ltb i (segmentsOf ps); number = 5; line = LineA; place = i }
 
 -- 1, 2, 3, 4, 5, 6
 abbrev pub buildChecks : List ℤ → List ℤ → List Check
@@ -70,7 +73,8 @@ holdsPoint r ps first last p =
     && holdsNumber (r .xmin) (r .xmax) (p .x) && holdsNumber (r .ymin) (r .ymax) (p .y)
 
 unfoldable pub holdsRun : List ℤ → List ℤ → Node → Bool
-holdsRun ps t n = everyOf (λ i. holdsPoint (rowAt t (n .row)) ps (n .first) (n .last) (point ps i)) (n .first) (suc (size n))
+holdsRun ps t n =
+    everyOf (λ i. holdsPoint (rowAt t (n .row)) ps (n .first) (n .last) (point ps i)) (n .first) (suc (size n))
 
 -- with at most this many levels
 unfoldable pub soundFrom : ℕ → List ℤ → List ℤ → Node → Bool

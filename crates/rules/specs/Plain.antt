@@ -101,4 +101,5 @@ plainInside ps z = oddOf (segmentCrosses ps z) 0 (segmentsOf ps)
 -- AGREE at D is yes when each point of A is NEAR B and each point of B is NEAR A
 unfoldable pub plainAgree : List ℤ → List ℤ → ℤ → Bool
 plainAgree ps qs D =
-    everyOf (λ i. plainNear qs (point ps i) D) 0 (pointsOf ps) && everyOf (λ j. plainNear ps (point qs j) D) 0 (pointsOf qs)
+    everyOf (λ i. plainNear qs (point ps i) D) 0 (pointsOf ps)
+    && everyOf (λ j. plainNear ps (point qs j) D) 0 (pointsOf qs)

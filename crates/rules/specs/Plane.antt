@@ -3,7 +3,7 @@ use mathlib.Core.Bool.{Bool, cond, _&&_}
 use lib.IntN.{ℤ, pos, _+ℤ_, _-ℤ_, _*ℤ_}
 use Rattle.rules.specs.declared.Point.{Point}
 -- a = b as a test, the lesser and the greater of two numbers
-pub use Rattle.whole.specs.Order.{eqZ, minZ, maxZ}
+pub use Rattle.integers.specs.Order.{eqZ, minZ, maxZ}
 
 abbrev pub samePoint : Point → Point → Bool
 samePoint a b = eqZ (a .x) (b .x) && eqZ (a .y) (b .y)

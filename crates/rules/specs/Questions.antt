@@ -1,5 +1,5 @@
--- Document 01, "The written walk": what one visit of NEAR, MEET and IN does, AGREE as a row of NEAR walks, and what each
--- question replies, refusals first.
+-- Document 01, "The written walk": what one visit of NEAR, MEET and IN does, AGREE as a row of NEAR walks, and what
+-- each question replies, refusals first.
 use mathlib.Core.Bool.{Bool, true, false, not, cond, _&&_, _||_}
 use mathlib.Core.List.{List, [], _∷_, _++_}
 use Prim.Native.Nat.{ℕ, zero, suc, _+_, _-_}
@@ -18,7 +18,9 @@ use Rattle.rules.specs.Sheet.{point, pointsOf, segmentsOf, onSheet}
 use Rattle.rules.specs.declared.Row.{Row}
 use Rattle.rules.specs.Tree.{rowAt, nodeC, nodeT, isLeaf, rowCount, leftRow, rightRow}
 use Rattle.rules.specs.Plain.{within, share, onSegment, crosses, _⊕_}
-use Rattle.rules.specs.Reply.{Check, Reply, YES, NO, INSIDE, OUTSIDE, ON, UNDECIDED, says, refuses, disagrees, firstRefusal, orRefused}
+use Rattle.rules.specs.declared.Word.the-variants.{YES, NO, INSIDE, OUTSIDE, ON, UNDECIDED}
+use Rattle.rules.specs.declared.Reply.{Reply}
+use Rattle.rules.specs.Reply.{Check, says, refuses, disagrees, firstRefusal, orRefused}
 use Rattle.rules.specs.Rows.{good, lengthChecks, distanceCheck, askedCheck, ringCheck}
 use Rattle.rules.specs.Walk.{Visit, refuse, finish, pass, halve, Walked, ended, over, spent, refused, fresh, walk}
 
@@ -48,12 +50,14 @@ splitIn r = natAbs (r .split)
 module _ {S N : Type 0} where
   -- a row read at a visit is bad: 10, at the row
   abbrev pub readRow : Line → List ℤ → List ℤ → Node → (Row → Visit S N) → Visit S N
-  readRow l ps t n go = cond (good ps (rowAt t (n .row)) (n .first) (n .last)) (go (rowAt t (n .row))) (refuse 10 l (n .row))
+  readRow l ps t n go =
+      cond (good ps (rowAt t (n .row)) (n .first) (n .last)) (go (rowAt t (n .row))) (refuse 10 l (n .row))
 
   -- a child's row is not below 2n-1: 11, at the parent's row
   abbrev pub openNode : Line → List ℤ → Node → ℕ → (Node → Node → Visit S N) → Visit S N
   openNode l ps n split go =
-      cond (leb (rowCount (segmentsOf ps)) (leftOf n split .row) || leb (rowCount (segmentsOf ps)) (rightOf n split .row))
+      cond
+      (leb (rowCount (segmentsOf ps)) (leftOf n split .row) || leb (rowCount (segmentsOf ps)) (rightOf n split .row))
       (refuse 11 l (n .row))
       (go (leftOf n split) (rightOf n split))
 
@@ -107,7 +111,8 @@ nearReply ps t z D allowance =
 -- ---- MEET: a pair of nodes, one of each line
 -- boxes are disjoint
 abbrev pub boxesApart : Row → Row → Bool
-boxesApart r q = ltZ (r .xmax) (q .xmin) || ltZ (q .xmax) (r .xmin) || ltZ (r .ymax) (q .ymin) || ltZ (q .ymax) (r .ymin)
+boxesApart r q =
+    ltZ (r .xmax) (q .xmin) || ltZ (q .xmax) (r .xmin) || ltZ (r .ymax) (q .ymin) || ltZ (q .ymax) (r .ymin)
 
 abbrev pub atCorners : Row → (Point → Bool) → Bool
 atCorners r p =
@@ -164,12 +169,14 @@ clearOf r s u z =
 abbrev pub count : Bool → Bool → Bool
 count b k = k ⊕ b
 
--- then the node counts as its chord alone, by the crossing rule; a leaf left over is tested exactly; on-edge ends the walk
+-- then the node counts as its chord alone, by the crossing rule; a leaf left over is tested exactly; on-edge ends the
+-- walk
 unfoldable pub inVisit : List ℤ → List ℤ → Point → Node → Visit Bool Node
 inVisit ps t z n =
     readRow LineA ps t n λ r.
     cond (clearOf r (startOf ps n) (headingOf ps n) z) (pass (count (crosses z (startOf ps n) (endOf ps n))))
-    (cond (leaf n) (cond (onSegment z (startOf ps n) (endOf ps n)) finish (pass (count (crosses z (startOf ps n) (endOf ps n)))))
+    (cond (leaf n)
+    (cond (onSegment z (startOf ps n) (endOf ps n)) finish (pass (count (crosses z (startOf ps n) (endOf ps n)))))
     (openNode LineA ps n (splitIn r) halve))
 
 abbrev pub inWalk : List ℤ → List ℤ → Point → Tally → Walked Bool

@@ -1,5 +1,5 @@
--- What an answer says: the word, visits, refusal number, line and place of document 01, and what each case of an
--- answer says of them. The order in which refusals are checked is the order of a list.
+-- What an answer says: the word, visits, refusal number or 0, line A, B or none, and place or 0 of document 01.
+-- The order in which refusals are checked is the order of a list.
 use mathlib.Core.Bool.{Bool, cond}
 use mathlib.Core.List.{List, [], _∷_}
 use mathlib.Core.Option.{Option, none, some}
@@ -9,23 +9,9 @@ use Rattle.rules.specs.declared.Line.the-variants.{NoLine}
 use Rattle.rules.specs.declared.Refusal.{Refusal}
 use Rattle.rules.specs.declared.Built.{Built}
 use Rattle.rules.specs.declared.Built.the-variants as built
-use Rattle.rules.specs.declared.Answer.{Answer}
-use Rattle.rules.specs.declared.Answer.the-variants as answer
-use Rattle.rules.specs.declared.Side.{Side}
-use Rattle.rules.specs.declared.Side.the-variants as side
-use Rattle.rules.specs.declared.Agreement.{Agreement}
-use Rattle.rules.specs.declared.Agreement.the-variants as agreement
-
-pub data Word : Type 0 where
-  YES NO INSIDE OUTSIDE ON UNDECIDED REFUSED : Word
-
--- word, visits, refusal number or 0, line A, B or none, place or 0
-pub record Reply : Type 0 where
-  pub word : Word
-  pub visits : ℕ
-  pub number : ℕ
-  pub line : Line
-  pub place : ℕ
+use Rattle.rules.specs.declared.Word.{Word}
+use Rattle.rules.specs.declared.Word.the-variants.{NO, REFUSED}
+use Rattle.rules.specs.declared.Reply.{Reply}
 
 -- only REFUSED and AGREE's NO fill the last two
 abbrev pub says : Word → ℕ → Reply
@@ -37,29 +23,10 @@ disagrees l i v = record { word = NO; visits = v; number = 0; line = l; place = 
 abbrev pub refuses : Refusal → Reply
 refuses r = record { word = REFUSED; visits = r .visits; number = r .number; line = r .line; place = r .place }
 
--- ---- the paper's values of each case
+-- ---- the refusal of a build, if it is refused
 abbrev pub builtRefusal : Built → Option Refusal
-builtRefusal built.Whole = none
+builtRefusal built.Written = none
 builtRefusal (built.Refused r) = some r
-
-abbrev pub answerReply : Answer → Reply
-answerReply (answer.Yes v) = says YES v
-answerReply (answer.No v) = says NO v
-answerReply (answer.Undecided v) = says UNDECIDED v
-answerReply (answer.Refused r) = refuses r
-
-abbrev pub sideReply : Side → Reply
-sideReply (side.Inside v) = says INSIDE v
-sideReply (side.Outside v) = says OUTSIDE v
-sideReply (side.OnEdge v) = says ON v
-sideReply (side.Undecided v) = says UNDECIDED v
-sideReply (side.Refused r) = refuses r
-
-abbrev pub agreementReply : Agreement → Reply
-agreementReply (agreement.Yes v) = says YES v
-agreementReply (agreement.No l i v) = disagrees l i v
-agreementReply (agreement.Undecided v) = says UNDECIDED v
-agreementReply (agreement.Refused r) = refuses r
 
 -- ---- numbered refusals, in the order checked: the first reason that holds decides, before any visit
 pub record Check : Type 0 where

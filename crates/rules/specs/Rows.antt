@@ -22,7 +22,8 @@ rangeGood r first last = eqZ (r .first) (pos first) && eqZ (r .last) (pos last)
 
 -- split isn't -1 for one segment, or isn't strictly between first and last for more
 abbrev pub splitGood : Row → ℕ → ℕ → Bool
-splitGood r first last = cond (isLeaf first last) (eqZ (r .split) noSplit) (ltZ (pos first) (r .split) && ltZ (r .split) (pos last))
+splitGood r first last =
+    cond (isLeaf first last) (eqZ (r .split) noSplit) (ltZ (pos first) (r .split) && ltZ (r .split) (pos last))
 
 -- cmin or tmin above 0, cmax or tmax below 0
 abbrev pub stripGood : Row → Bool
@@ -45,7 +46,8 @@ leafGood ps first last = not (isLeaf first last && samePoint (point ps first) (p
 
 unfoldable pub good : List ℤ → Row → ℕ → ℕ → Bool
 good ps r first last =
-    rangeGood r first last && splitGood r first last && stripGood r && boxGood r && endsGood ps first last && leafGood ps first last
+    rangeGood r first last && splitGood r first last && stripGood r && boxGood r && endsGood ps first last
+    && leafGood ps first last
 
 -- ---- the lengths: 1 odd length of a points slice, 2 fewer than 2 points, 3 more than 4,097 points
 abbrev pub pointChecks : Line → List ℤ → List Check
@@ -57,7 +59,8 @@ pointChecks l ps =
 
 -- 6 table shorter than 11*(2n-1)
 abbrev pub tableCheck : Line → List ℤ → List ℤ → Check
-tableCheck l ps t = record { holds = ltb (length t) (width * rowCount (segmentsOf ps)); number = 6; line = l; place = 0 }
+tableCheck l ps t =
+    record { holds = ltb (length t) (width * rowCount (segmentsOf ps)); number = 6; line = l; place = 0 }
 
 -- questions check 1, 2, 3, 6
 abbrev pub lengthChecks : Line → List ℤ → List ℤ → List Check

@@ -8,7 +8,7 @@ use lib.ListN.{getD}
 use Rattle.rules.specs.declared.Point.{Point}
 use Rattle.rules.specs.declared.Row.{Row}
 use Rattle.rules.specs.Plane.{minZ, maxZ, direction, cAt, tAt}
-use Rattle.rules.specs.Sheet.{point}
+use Rattle.rules.specs.Sheet.{point, most}
 
 -- ---- a node covers points first to last; s is the first point and u the direction from it to the last
 abbrev pub nodeC : List ℤ → ℕ → ℕ → Point → ℤ
@@ -108,11 +108,16 @@ rowsOf zero ps first last = []
 rowsOf (suc levels) ps first last =
     let s = splitOf ps first last in
     let halves = rowsOf levels ps first s ++ rowsOf levels ps s last in
-    cond (isLeaf first last) (numbers (measured ps first last noSplit)) (numbers (measured ps first last (pos s)) ++ halves)
+    cond (isLeaf first last) (numbers (measured ps first last noSplit))
+    (numbers (measured ps first last (pos s)) ++ halves)
 
 -- 2n-1 rows for n segments
 abbrev pub rowCount : ℕ → ℕ
 rowCount n = 2 * n - 1
+
+-- no table has more
+abbrev pub mostRows : ℕ
+mostRows = rowCount (most - 1)
 
 -- the left child next, the right child 2*(split - first) rows on
 abbrev pub leftRow : ℕ → ℕ

@@ -1,5 +1,6 @@
--- Document 01, "The written walk": the tally, and the walk over whatever one visit does. Each question says what its visit
--- does (Questions); the answer, the visits, and later a report or the pending rows, are readings of this one walk.
+-- Document 01, "The written walk": the tally, and the walk over whatever one visit does. Each question says what its
+-- visit does (Questions); the answer, the visits, and later a report or the pending rows, are readings of this one
+-- walk.
 use mathlib.Core.Bool.{cond}
 use Prim.Native.Nat.{ℕ, zero, suc, _+_}
 use lib.Dec.{ltb}
@@ -11,7 +12,8 @@ use Rattle.rules.specs.declared.Next.the-variants.{Left, Spent}
 
 -- the tally after one more visit, or none is left
 abbrev pub next : Tally → Next
-next y = cond (ltb (y .visits) (y .allowance)) (Left (record { allowance = y .allowance; visits = y .visits + 1 })) Spent
+next y =
+    cond (ltb (y .visits) (y .allowance)) (Left (record { allowance = y .allowance; visits = y .visits + 1 })) Spent
 
 abbrev pub fresh : ℕ → Tally
 fresh allowance = record { allowance = allowance; visits = 0 }
@@ -56,4 +58,5 @@ module _ {S N : Type 0} where
   unfoldable pub walk : (N → Visit S N) → ℕ → N → S → Tally → Walked S
   walk visit zero n s y = spent
   walk visit (suc levels) n s y =
-      onVisit (next y) (λ v. onStep (visit n) s v (λ l r. goOn (walk visit levels l s v) (λ s′ v′. walk visit levels r s′ v′)))
+      onVisit (next y) λ v.
+      onStep (visit n) s v (λ l r. goOn (walk visit levels l s v) (λ s′ v′. walk visit levels r s′ v′))

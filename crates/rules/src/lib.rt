@@ -1,6 +1,7 @@
 // Document 01 as definitions (specs/), and the values that its answers are made of. Nothing here computes geometry:
-// the crates above promise `reply r ≡ definition`, where `reply` says the paper's values of each case of an answer.
+// the crates above promise `r ≡ definition`, where both sides are the one `Reply`.
 ghost use mathlib.Core.Path.{_≡_};
+ghost use Rattle.rules.specs.Reply.{says, disagrees, refuses};
 ghost use Rattle.rules.specs.Walk.{next};
 
 // A point in sheet units.
@@ -54,37 +55,68 @@ pub struct Refusal {
 
 // What building answers.
 pub enum Built {
-    Whole,
+    Written,
     Refused(Refusal),
 }
 
-// What NEAR and MEET answer, with the visits made.
-pub enum Answer {
-    Yes(u32),
-    No(u32),
-    Undecided(u32),
-    Refused(Refusal),
+// The words of an answer, as they are printed.
+pub enum Word {
+    YES,
+    NO,
+    INSIDE,
+    OUTSIDE,
+    ON,
+    UNDECIDED,
+    REFUSED,
 }
 
-// What IN answers, with the visits made.
-pub enum Side {
-    Inside(u32),
-    Outside(u32),
-    OnEdge(u32),
-    Undecided(u32),
-    Refused(Refusal),
+// What a question is answered with: the word, the visits made, the refusal number or 0, the line at fault, or none,
+// and the place or 0.
+pub struct Reply {
+    pub word: Word,
+    pub visits: u32,
+    pub number: u32,
+    pub line: Line,
+    pub place: usize,
 }
 
-// What AGREE answers, with the visits made; a no names the first point that is not near the other line.
-pub enum Agreement {
-    Yes(u32),
-    No {
-        line: Line,
-        point: usize,
-        visits: u32,
-    },
-    Undecided(u32),
-    Refused(Refusal),
+// A word after these visits, and nothing at fault.
+pub fn says(word: Word, visits: u32) -> Reply
+    ensures { λ r. ⌜ r ≡ says word visits ⌝ }
+{
+    Reply {
+        word,
+        visits,
+        number: 0,
+        line: Line::NoLine,
+        place: 0,
+    }
+}
+
+// AGREE's no, which names the first point that is not near the other line.
+pub fn disagrees(line: Line, point: usize, visits: u32) -> Reply
+    ensures { λ r. ⌜ r ≡ disagrees line point visits ⌝ }
+{
+    Reply {
+        word: Word::NO,
+        visits,
+        number: 0,
+        line,
+        place: point,
+    }
+}
+
+pub fn refuses(refusal: Refusal) -> Reply
+    ensures { λ r. ⌜ r ≡ refuses refusal ⌝ }
+{
+    let line = refusal.line;
+    Reply {
+        word: Word::REFUSED,
+        visits: refusal.visits,
+        number: refusal.number,
+        line,
+        place: refusal.place,
+    }
 }
 
 // The tally of visits is a value: each visit takes it and gives the next one back.

@@ -3,11 +3,11 @@ use mathlib.Core.Path.{_≡_, sym, subst}
 use mathlib.Core.List.{List}
 use Prim.Native.Nat.{ℕ, _<_}
 use lib.IntN.{ℤ}
-use Rattle.whole.specs.Order.{T-true}
+use Rattle.integers.specs.Order.{T-true}
 use Rattle.rules.specs.declared.Point.{Point}
 use Rattle.rules.specs.Sheet.{point, pointsOf}
-use Rattle.visits.specs.Small.{OnSheet}
-use Rattle.visits.proofs.OnSheets.{on-sheet}
+use Rattle.limits.specs.Small.{OnSheet}
+use Rattle.limits.proofs.OnSheets.{on-sheet}
 use Rattle.run.specs.Run.{AllOnSheet}
 
 pub read-on : (q : List ℤ) → AllOnSheet q → (i : ℕ) → i < pointsOf q → {p : Point} → p ≡ point q i → OnSheet p

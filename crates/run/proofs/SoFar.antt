@@ -1,5 +1,5 @@
--- A run of points, read from its first point to point i: what is measured so far. The ends of a run have c = 0 and stand
--- farthest from its middle, so going through all the points finds the split among the inner ones.
+-- A run of points, read from its first point to point i: what is measured so far. The ends of a run have c = 0 and
+-- stand farthest from its middle, so going through all the points finds the split among the inner ones.
 use mathlib.Core.Path.{_≡_, refl, sym, ap, _∙_}
 use mathlib.Core.Bool.{Bool, true, false, cond, _&&_, _||_, and-false, or-true}
 use mathlib.Core.Logic.{⊎-elim}
@@ -10,12 +10,12 @@ use native.Mathlib.Omega.{arith}
 use borrow.Author.Tests.{lt-ltb, le-ltb, eq-eqb}
 use lib.Dec.{ltb, eqb}
 use lib.IntN.{ℤ, natAbs}
-use Rattle.whole.specs.Laws.{cond-ind}
+use Rattle.integers.specs.Laws.{cond-ind}
 use Rattle.rules.specs.Plane.{direction}
 use Rattle.rules.specs.Sheet.{point, segmentsOf}
 use Rattle.rules.specs.Tree.{nodeC, nodeT, least, greatest, height, offMiddle, better, best, splitOf, measured}
 use Rattle.visits.proofs.Terms.{c-start, t-start}
-use Rattle.built.proofs.Rows.{≤-or->}
+use Rattle.table_truth.proofs.Rows.{≤-or->}
 use Rattle.run.specs.declared.Top.{Top}
 use Rattle.run.specs.declared.Measured.{Measured}
 use Rattle.run.specs.Run.{startOf, spanWith, measuredWith, measureOf}
@@ -54,7 +54,8 @@ module _ (q : List ℤ) (last : ℕ) where
   top-below zero = omega arith
   top-below (suc i) =
       let ih = top-below i in
-      cond-ind (better q 0 last (topSoFar q last i) (suc i)) (suc i) (topSoFar q last i) (λ n. n ≤ suc i) (λ _. omega arith) (λ _. omega arith)
+      cond-ind (better q 0 last (topSoFar q last i) (suc i)) (suc i) (topSoFar q last i) (λ n. n ≤ suc i)
+      (λ _. omega arith) (λ _. omega arith)
 
   -- the first point alone
   pub so-far-start : soFar q last 0 ≡ startOf
@@ -68,7 +69,9 @@ module _ (q : List ℤ) (last : ℕ) where
       }
 
   -- one point more
-  pub so-far-more : (i : ℕ) → soFar q last (suc i) ≡ measuredWith (soFar q last i) (nodeC q 0 last (point q (suc i))) (nodeT q 0 last (point q (suc i))) last (suc i)
+  pub so-far-more : (i : ℕ)
+      → soFar q last (suc i)
+      ≡ measuredWith (soFar q last i) (nodeC q 0 last (point q (suc i))) (nodeT q 0 last (point q (suc i))) last (suc i)
   unfolding least greatest topSoFar better height
   so-far-more i =
       let j = zero-add (suc i) in
@@ -90,7 +93,8 @@ module _ (q : List ℤ) (last : ℕ) where
   -- the first inner point takes the place of the first point
   first-inner : 1 < last → better q 0 last 0 1 ≡ true
   unfolding better
-  first-inner h = ⊎-elim (λ k. even (omega (arith, height-start))) (λ k. above (omega (arith, height-start))) (≤-or-> h1 0)
+  first-inner h =
+      ⊎-elim (λ k. even (omega (arith, height-start))) (λ k. above (omega (arith, height-start))) (≤-or-> h1 0)
     where
       h0 : ℕ
       h0 = height q 0 last 0
@@ -112,7 +116,8 @@ module _ (q : List ℤ) (last : ℕ) where
   last-passed s h =
       let l = ap (ltb (height q 0 last s)) height-end ∙ le-ltb (height q 0 last s) 0 (omega arith) in
       let o = le-ltb (offMiddle 0 last last) (offMiddle 0 last s) (omega arith) in
-      (λ d. l d || (eqb (height q 0 last s) (height q 0 last last) && o d)) ∙ and-false (eqb (height q 0 last s) (height q 0 last last))
+      (λ d. l d || (eqb (height q 0 last s) (height q 0 last last) && o d))
+      ∙ and-false (eqb (height q 0 last s) (height q 0 last last))
 
   -- so before the last point the best is the best of the inner points
   inner-top : (i : ℕ) → suc i < last → topSoFar q last (suc i) ≡ best q 0 last i
@@ -129,7 +134,8 @@ module _ (q : List ℤ) (last : ℕ) where
   top-all i e =
       let s = topSoFar q last (suc i) in
       let k : i ≡ last - 0 - 2 = omega arith in
-      ap (λ (b : Bool). cond b (suc (suc i)) s) (ap (better q 0 last s) e ∙ last-passed s (omega (arith, top-below (suc i))))
+      let p = last-passed s (omega (arith, top-below (suc i))) in
+      ap (λ (b : Bool). cond b (suc (suc i)) s) (ap (better q 0 last s) e ∙ p)
       ∙ inner-top i (omega arith)
       ∙ ap (best q 0 last) k
 

@@ -5,7 +5,7 @@ use mathlib.Core.List.{List}
 use Prim.Native.Nat.{ℕ, _<_}
 use lib.Dec.{ltb, eqb}
 use lib.IntN.{ℤ, pos, natAbs}
-use Rattle.whole.specs.Order.{minZ, maxZ}
+use Rattle.integers.specs.Order.{minZ, maxZ}
 use Rattle.rules.specs.Sheet.{point, pointsOf, segmentsOf, onSheet}
 use Rattle.rules.specs.Tree.{height, offMiddle, splitOf, measured, noSplit}
 use Rattle.run.specs.declared.Span.{Span}
@@ -36,7 +36,8 @@ abbrev pub startOf : Measured
 startOf = record { c = spanOf (pos 0); t = spanOf (pos 0); top = record { split = 0; height = 0 } }
 
 abbrev pub measuredWith : Measured → ℤ → ℤ → ℕ → ℕ → Measured
-measuredWith m c t last i = record { c = spanWith (m .c) c; t = spanWith (m .t) t; top = topWith last (m .top) i (natAbs c) }
+measuredWith m c t last i =
+    record { c = spanWith (m .c) c; t = spanWith (m .t) t; top = topWith last (m .top) i (natAbs c) }
 
 -- ---- a whole run with an inner point: the strip of its row, and its split
 abbrev pub measureOf : List ℤ → Measured

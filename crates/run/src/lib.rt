@@ -9,10 +9,10 @@ use rules::Point;
 ghost use mathlib.Core.Path.{_≡_};
 ghost use Prim.Native.Nat.{_≤_, _<_};
 ghost use lib.IntN.{natAbs};
-ghost use Rattle.whole.specs.Range.{Abs≤};
+ghost use Rattle.integers.specs.Range.{Abs≤};
 ghost use Rattle.rules.specs.Plane.{cAt, tAt};
-ghost use Rattle.rules.specs.Sheet.{segmentsOf};
-ghost use Rattle.visits.specs.Small.{OnSheet, Small, widest};
+ghost use Rattle.rules.specs.Sheet.{most, segmentsOf};
+ghost use Rattle.limits.specs.Small.{OnSheet, Small, widest};
 ghost use Rattle.run.specs.Run.{AllOnSheet, spanOf, spanWith, topWith, startOf, measuredWith, measureOf};
 
 // The least and the greatest of some numbers.
@@ -63,10 +63,10 @@ fn height(c: i64) -> usize
 }
 
 impl Top {
-    // The top, or point i, which is above it, where that is better. Of two points, the later is nearer to the middle exactly
-    // when they add up to less than last.
+    // The top, or point i, which is above it, where that is better. Of two points, the later is nearer to the middle
+    // exactly when they add up to less than last.
     fn with(self, last: usize, i: usize, height: usize) -> Top
-        requires { ⌜ (self .split < i) × (i ≤ last) × (last < 4097) ⌝ }
+        requires { ⌜ (self .split < i) × (i ≤ last) × (last < most) ⌝ }
         ensures { λ r. ⌜ r ≡ topWith last self i height ⌝ }
     {
         let top = self.height;
@@ -100,7 +100,7 @@ impl Measured {
 
     // One point more: point i of a run to point last, with s and u.
     fn with(self, s: Point, u: Point, last: usize, i: usize, p: Point) -> Measured
-        requires { ⌜ OnSheet s × Small u × OnSheet p × (self .top .split < i) × (i ≤ last) × (last < 4097) ⌝ }
+        requires { ⌜ OnSheet s × Small u × OnSheet p × (self .top .split < i) × (i ≤ last) × (last < most) ⌝ }
         ensures { λ r. ⌜ r ≡ measuredWith self (cAt s u p) (tAt s u p) last i ⌝ }
     {
         let c = c_at(s, u, p);
@@ -115,7 +115,7 @@ impl Measured {
 
 // A run with an inner point.
 pub fn measure(run: &[i32]) -> Measured
-    requires { ⌜ AllOnSheet (now run) × (1 < segmentsOf (now run)) × (segmentsOf (now run) < 4097) ⌝ }
+    requires { ⌜ AllOnSheet (now run) × (1 < segmentsOf (now run)) × (segmentsOf (now run) < most) ⌝ }
     ensures { λ r. ⌜ r ≡ measureOf (now (run .entry)) ⌝ }
 {
     let last = run.len() / 2 - 1;

@@ -15,7 +15,7 @@ ghost use Rattle.rules.specs.Build.{holdsNumber};
 ghost use Rattle.rules.specs.Plane.{direction};
 ghost use Rattle.rules.specs.Plain.{rangeHolds, onSegment, lowHigh, sideOf, crosses};
 ghost use Rattle.rules.specs.Questions.{outside, clearOf};
-ghost use Rattle.visits.specs.Small.{OnSheet, Small};
+ghost use Rattle.limits.specs.Small.{OnSheet, Small};
 
 // Whether v lies between lo and hi.
 fn holds(lo: i64, hi: i64, v: i64) -> bool
@@ -55,12 +55,12 @@ fn low_high(z: Point, l: Point, h: Point) -> bool
     l.y <= z.y && z.y < h.y
 }
 
-// Above 0 where z is to the left of the segment from its low end to its high end.
+// Above 0 where z is to the left of the segment from its low end to its high end: c of z.
 fn side_of(z: Point, l: Point, h: Point) -> i64
     requires { ⌜ OnSheet z × OnSheet l × OnSheet h ⌝ }
     ensures { λ r. ⌜ r ≡ sideOf z l h ⌝ }
 {
-    (h.x - l.x) * (z.y - l.y) - (z.x - l.x) * (h.y - l.y)
+    c_at(l, step(l, h), z)
 }
 
 // Whether the segment with low end l and high end h crosses the ray to the right of z.

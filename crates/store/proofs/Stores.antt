@@ -1,13 +1,14 @@
--- A line's store: as many points as are counted, a point behind them, and what it leaves in the numbers of the store.
-use mathlib.Core.Path.{_≡_, sym, _∙_, ap}
-use mathlib.Core.Bool.{Bool, true, cond}
+-- A line's store: as many points as are counted, and a point behind them.
+use mathlib.Core.Path.{_≡_, refl, sym, _∙_, ap}
+use mathlib.Core.Bool.{Bool, true, false, cond}
 use mathlib.Core.List.{List, [], _∷_, _++_}
 use Prim.Native.Nat.{ℕ, _+_, _*_, _≤_, _<_}
 use native.Mathlib.Numerals.{add-one}
 use native.Mathlib.Omega.{arith}
 use borrow.Author.Tests.{lt-ltb, le-ltb}
+use lib.Dec.{ltb}
 use lib.IntN.{ℤ}
-use lib.ListN.{length, take, drop, set, length-append}
+use lib.ListN.{length, take, drop, set, length-append, length-set}
 use lib.Seq.{sets-eq, take-at, length-take-le}
 use Rattle.rules.specs.Sheet.{pointsOf}
 use Rattle.desk.specs.declared.Held.{Held}
@@ -23,20 +24,20 @@ set-behind xs k x y h =
     let front = take n xs ++ x ∷ y ∷ [] in
     let rest = drop (n + 2) xs in
     let next : 2 * (k + 1) ≡ n + 2 = omega arith in
-    let head : length front ≡ n + 2 = length-append (take n xs) (x ∷ y ∷ []) ∙ ap (λ (m : ℕ). m + 2) (length-take-le n xs (omega arith)) in
+    let head : length front ≡ n + 2 =
+    length-append (take n xs) (x ∷ y ∷ []) ∙ ap (λ (m : ℕ). m + 2) (length-take-le n xs (omega arith)) in
     (λ i. take (next i) (set (set xs n x) (add-one n i) y))
     ∙ ap (take (n + 2)) (sets-eq (x ∷ y ∷ []) xs n (omega arith))
     ∙ take-at front rest (n + 2) head
 
--- What a point leaves: it is written behind the others, and past the 257th it is not.
-module _ (xs : List ℤ) (x y : ℤ) where
-  pub left-behind : {n : ℕ} → n < room → set (set xs (2 * n) x) (2 * n + 1) y ≡ pointLeft n xs x y
-  unfolding pointLeft
-  left-behind {n} h = rw (lt-ltb n room h)
+-- What is left has the size of what was lent.
+pub chosen-size : {A : Type 0} (k : Bool) (xs ys : List A) → length xs ≡ length ys → length (cond k xs ys) ≡ length ys
+chosen-size true xs ys e = e
+chosen-size false xs ys e = refl
 
-  pub left-past : {n : ℕ} → room ≤ n → xs ≡ pointLeft n xs x y
-  unfolding pointLeft
-  left-past {n} h = rw (le-ltb n room h)
+pub point-size : (n : ℕ) (xs : List ℤ) (x y : ℤ) → length (pointLeft n xs x y) ≡ length xs
+unfolding pointLeft
+point-size n xs x y = chosen-size (ltb n room) (set (set xs (2 * n) x) (2 * n + 1) y) xs (simp length-set)
 
 module _ (h : Held) (xs : List ℤ) (s : Stored h xs) where
   -- The points of a store are those that are counted.
@@ -48,29 +49,41 @@ module _ (h : Held) (xs : List ℤ) (s : Stored h xs) where
       omega arith
 
   module _ (x y : ℤ) where
-    abbrev behind : Store
-    behind = record { points = storeIn h xs .points ++ x ∷ y ∷ []; over = h .over }
+    -- what is promised of a point more: how the line is held, and every number of the store
+    abbrev Adds : Held → List ℤ → Type 0
+    Adds r after =
+        (storeIn r after ≡ withPoint (storeIn h xs) x y) × ((r .count ≤ room) × (after ≡ pointLeft (h .count) xs x y))
 
-    abbrev past : Store
-    past = record { points = storeIn h xs .points; over = true }
+    -- the store with the point, or under 13
+    abbrev choice : Bool → Store
+    choice k =
+        cond k (record { points = storeIn h xs .points ++ x ∷ y ∷ []; over = h .over })
+        (record { points = storeIn h xs .points; over = true })
+
+    abbrev n : ℕ
+    n = h .count
 
     -- A point goes behind those that are stored.
-    pub point-stored : h .count < room →
-        storeIn (record { count = h .count + 1; over = h .over }) (set (set xs (2 * h .count) x) (2 * h .count + 1) y) ≡ withPoint (storeIn h xs) x y
+    pub point-stored : n < room → Adds (record { count = n + 1; over = h .over }) (set (set xs (2 * n) x) (2 * n + 1) y)
+    unfolding pointLeft
     point-stored l =
         let whole = s .whole in
         let counted = points-counted in
-        (λ i. record { points = set-behind xs (h .count) x y (omega arith) i; over = h .over })
-        ∙ sym (ap (λ (k : Bool). cond k behind past) (lt-ltb (pointsOf (storeIn h xs .points)) room (omega arith)))
+        let chosen = ap choice (lt-ltb (pointsOf (storeIn h xs .points)) room (omega arith)) in (
+          (λ i. record { points = set-behind xs n x y (omega arith) i; over = h .over }) ∙ sym chosen,
+          (omega arith, rw (lt-ltb n room l)),
+        )
 
-    -- Past the 257th it does not.
-    pub point-past : room ≤ h .count → storeIn (record { count = h .count; over = true }) xs ≡ withPoint (storeIn h xs) x y
-    point-past l = let counted = points-counted in sym (ap (λ (k : Bool). cond k behind past) (le-ltb (pointsOf (storeIn h xs .points)) room (omega arith)))
+    -- Past the last that there is room for, nothing does.
+    pub point-past : room ≤ n → Adds (record { count = n; over = true }) xs
+    unfolding pointLeft
+    point-past l =
+        let counted = points-counted in
+        let chosen = ap choice (le-ltb (pointsOf (storeIn h xs .points)) room (omega arith)) in
+        (sym chosen, (s .counted, rw (le-ltb n room l)))
 
 -- The same store is held the same way.
 pub held-unique : {h h′ : Held} {xs ys : List ℤ} → Stored h xs → Stored h′ ys → storeIn h xs ≡ storeIn h′ ys → h ≡ h′
 held-unique {h} {h′} {xs} {ys} p q e =
-    λ i. record {
-      count = (sym (points-counted h xs p) ∙ ap (λ (s : Store). pointsOf (s .points)) e ∙ points-counted h′ ys q) i;
-      over = e i .over;
-    }
+    let same = ap (λ (s : Store). pointsOf (s .points)) e in
+    λ i. record { count = (sym (points-counted h xs p) ∙ same ∙ points-counted h′ ys q) i; over = e i .over }

@@ -1,19 +1,25 @@
--- A point in a store, and the states on the way from a text line to its turn.
+-- A point in a store, a byte kept of a text line, and the states on the way from a text line to its outcome.
+use mathlib.Core.Path.{_≡_}
 use mathlib.Core.Bool.{true, false, cond}
 use mathlib.Core.List.{List, [], _∷_, _++_}
-use Prim.Native.Nat.{ℕ, _+_, _*_}
-use lib.Dec.{ltb}
+use mathlib.Core.Option.{Option, none, some}
+use Prim.Native.Nat.{ℕ, _+_, _*_, _≤_}
+use lib.Dec.{leb, ltb}
 use lib.IntN.{ℤ}
-use lib.ListN.{set}
+use lib.ListN.{set, take}
 use Rattle.rules.specs.declared.Line.{Line}
 use Rattle.rules.specs.declared.Line.the-variants.{NoLine, LineA, LineB}
 use Rattle.rules.specs.Sheet.{pointsOf}
-use Rattle.print.specs.declared.Said.{Said}
+use Rattle.rules.specs.declared.Reply.{Reply}
+use Rattle.words.specs.Records.{longest}
 use Rattle.desk.specs.declared.Held.{Held}
 use Rattle.desk.specs.Desk.{Store, room}
+use Rattle.desk.specs.Chunks.{keep}
+use Rattle.desk.specs.Kept.{keptBytes}
 use Rattle.store.specs.declared.State.{State}
+use Rattle.store.specs.declared.Speech.{Speech}
 use Rattle.store.specs.declared.Speech.the-variants.{Quiet, Says}
-use Rattle.store.specs.declared.Turned.{Turned}
+use Rattle.store.specs.declared.Outcome.{Outcome}
 
 -- ---- a point is written behind the points of a store, and past the 257th nothing is
 unfoldable pub pointLeft : ℕ → List ℤ → ℤ → ℤ → List ℤ
@@ -24,6 +30,10 @@ abbrev pub withPoint : Store → ℤ → ℤ → Store
 withPoint s x y =
     cond (ltb (pointsOf (s .points)) room) (record { points = s .points ++ x ∷ y ∷ []; over = s .over })
     (record { points = s .points; over = true })
+
+-- ---- a byte is written behind the pending bytes, and past one byte more than a text line may have none is
+unfoldable pub keptLeft : ℕ → List ℕ → ℕ → List ℕ
+keptLeft pending text b = cond (leb pending longest) (set text pending b) text
 
 -- ---- states on the way
 abbrev pub counted : State → State
@@ -42,6 +52,10 @@ abbrev pub withPending : State → ℕ → State
 withPending s n =
     record { target = s .target; a = s .a; b = s .b; read = s .read; printed = s .printed; pending = n }
 
+abbrev pub withPrinted : State → ℕ → State
+withPrinted s n =
+    record { target = s .target; a = s .a; b = s .b; read = s .read; printed = n; pending = s .pending }
+
 abbrev pub aimed : State → Line → State
 aimed s l =
     record { target = l; a = s .a; b = s .b; read = s .read; printed = s .printed; pending = s .pending }
@@ -54,12 +68,24 @@ started s NoLine = aimed s NoLine
 started s LineA = aimed (withA s noPoints) LineA
 started s LineB = aimed (withB s noPoints) LineB
 
-abbrev pub quietly : State → Turned
+abbrev pub quietly : State → Outcome
 quietly s = record { state = s; speech = Quiet }
 
-abbrev pub sayingly : State → Said → Turned
-sayingly s said =
+abbrev pub sayingly : State → Reply → Outcome
+sayingly s reply =
     record {
-      state = record { target = s .target; a = s .a; b = s .b; read = s .read; printed = s .printed + 1; pending = s .pending };
-      speech = Says said;
+      state = withPrinted s (s .printed + 1);
+      speech = Says reply;
     }
+
+-- ---- the paper's values of what an outcome says
+abbrev pub heard : Speech → Option Reply
+heard Quiet = none
+heard (Says reply) = some reply
+
+-- ---- a byte kept of the text line that has not ended: of the state the pending bytes alone change
+pub record Keeps (s : State) (text : List ℕ) (b : ℕ) (r : State) (after : List ℕ) : Type 0 where
+  pub state : r ≡ withPending s (r .pending)
+  pub left : after ≡ keptLeft (s .pending) text b
+  pub bytes : take (r .pending) after ≡ keep (take (s .pending) text) b
+  pub kept : r .pending ≤ keptBytes

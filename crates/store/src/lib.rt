@@ -1,13 +1,20 @@
-// What is kept between text lines: the state beside the lent slices, a point behind the stored points of a line, and the states on
-// the way from a text line to its turn.
+// What is kept between text lines and within one: the state beside the lent slices, a point behind the stored points of
+// a line, a byte behind the pending bytes of a text line; and the states on the way from a text line to what it prints.
 use desk::Held;
-use print::Said;
+use limits::KEPT_BYTES;
+use limits::ROOM;
+use print::put_line;
 use rules::Line;
+use rules::Reply;
 ghost use mathlib.Core.Path.{_≡_};
 ghost use Prim.Native.Nat.{_+_, _≤_, _<_, _^_};
-ghost use Rattle.desk.specs.Desk.{room};
-ghost use Rattle.desk.specs.Kept.{storeIn, Stored};
-ghost use Rattle.store.specs.States.{pointLeft, withPoint, counted, aimed, started, quietly, sayingly};
+ghost use lib.ListN.{length};
+ghost use Rattle.print.specs.Printed.{widest};
+ghost use Rattle.print.specs.Put.{Put};
+ghost use Rattle.desk.specs.Desk.{room, saidBytes};
+ghost use Rattle.desk.specs.Kept.{keptBytes, storeIn, Stored};
+ghost use Rattle.store.specs.States.{pointLeft, withPoint, Keeps};
+ghost use Rattle.store.specs.States.{counted, aimed, started, quietly, sayingly, heard};
 
 // What is carried beside the lent slices: where points go, how the two lines are held, the text lines read, the lines
 // printed, and the bytes kept of the text line that has not ended.
@@ -23,17 +30,14 @@ pub struct State {
 // What a text line makes the program say.
 pub enum Speech {
     Quiet,
-    Says(Said),
+    Says(Reply),
 }
 
 // What a text line comes to.
-pub struct Turned {
+pub struct Outcome {
     pub state: State,
     pub speech: Speech,
 }
-
-// The points that a line's store has room for.
-pub const ROOM: usize = 257;
 
 // Each point past the 257th is not stored.
 pub fn add_point(held: Held, points: &mut [i32], x: i32, y: i32) -> Held
@@ -52,6 +56,21 @@ pub fn add_point(held: Held, points: &mut [i32], x: i32, y: i32) -> Held
         };
     }
     Held { count, over: true }
+}
+
+// A byte behind the pending bytes: of a text line, one byte more than it may have is kept.
+pub fn keep_byte(state: State, text: &mut [u8], byte: u8) -> State
+    requires { ⌜ (length (now text) ≡ keptBytes) × (state .pending ≤ keptBytes) ⌝ }
+    ensures { λ r. ⌜ Keeps state (now (text .entry)) byte r (now (text .exit)) ⌝ }
+{
+    let pending = state.pending;
+    if pending < KEPT_BYTES {
+        text[pending] = byte;
+        let mut s = state;
+        s.pending = pending + 1;
+        return s;
+    }
+    state
 }
 
 // The pending bytes are a text line that is read.
@@ -103,23 +122,36 @@ pub fn started(state: State, line: Line) -> State
     }
 }
 
-pub fn quiet(state: State) -> Turned
+pub fn quiet(state: State) -> Outcome
     ensures { λ r. ⌜ r ≡ quietly state ⌝ }
 {
-    Turned {
+    Outcome {
         state,
         speech: Speech::Quiet,
     }
 }
 
-pub fn saying(state: State, said: Said) -> Turned
+pub fn saying(state: State, reply: Reply) -> Outcome
     requires { ⌜ state .printed < state .read ⌝ }
-    ensures { λ r. ⌜ r ≡ sayingly state said ⌝ }
+    ensures { λ r. ⌜ r ≡ sayingly state reply ⌝ }
 {
     let mut s = state;
     s.printed = state.printed + 1;
-    Turned {
+    Outcome {
         state: s,
-        speech: Speech::Says(said),
+        speech: Speech::Says(reply),
+    }
+}
+
+// The line that an outcome prints, if any.
+pub fn print_outcome(outcome: Outcome, out: &mut [u8], at: usize) -> usize
+    requires { ⌜ at + widest ≤ length (now out) ⌝ }
+    ensures { λ r. ⌜ Put (now (out .entry)) at (saidBytes (heard (outcome .speech)) (outcome .state .printed))
+        (now (out .exit)) r ⌝ }
+{
+    let speech = outcome.speech;
+    match speech {
+        Speech::Quiet => at,
+        Speech::Says(said) => put_line(out, at, outcome.state.printed, said),
     }
 }

@@ -1,12 +1,12 @@
--- Affine functions of the plane. What a row measures of a point is affine: x, y, c and t. So a dismissal by any of them is a
--- dismissal by an affine function.
+-- Affine functions of the plane. What a row measures of a point is affine: x, y, c and t. So a dismissal by any of them
+-- is a dismissal by an affine function.
 use mathlib.Core.Path.{_≡_}
 use lib.IntN.{ℤ, pos, negℤ, _+ℤ_, _-ℤ_, _*ℤ_}
-use Rattle.whole.specs.Poly.{con, _:+_, _:*_, _:-_, :neg}
-use Rattle.whole.specs.Check.{_:=_, ring}
+use Rattle.integers.specs.Poly.{con, _:+_, _:*_, _:-_, :neg}
+use Rattle.integers.specs.Check.{_:=_}
 use Rattle.rules.specs.declared.Point.{Point}
 use Rattle.rules.specs.Plane.{cAt, tAt}
-use Rattle.visits.proofs.Terms.{cE, tE}
+use Rattle.visits.proofs.Points.{cAtE, tAtE, ring-of}
 
 pub record Affine (f : Point → ℤ) : Type 0 where
   pub α : ℤ
@@ -19,7 +19,7 @@ x-affine = record {
   α = pos 1;
   β = pos 0;
   γ = pos 0;
-  is = λ p. ring 2 (λ x y. x := con (pos 1) :* x :+ con (pos 0) :* y :+ con (pos 0)) tt (p .x) (p .y);
+  is = ring-of 1 0 (λ p. p .x := con (pos 1) :* p .x :+ con (pos 0) :* p .y :+ con (pos 0)) tt;
 }
 
 pub y-affine : Affine (λ p. p .y)
@@ -27,7 +27,7 @@ y-affine = record {
   α = pos 0;
   β = pos 1;
   γ = pos 0;
-  is = λ p. ring 2 (λ x y. y := con (pos 0) :* x :+ con (pos 1) :* y :+ con (pos 0)) tt (p .x) (p .y);
+  is = ring-of 1 0 (λ p. p .y := con (pos 0) :* p .x :+ con (pos 1) :* p .y :+ con (pos 0)) tt;
 }
 
 pub c-affine : (s u : Point) → Affine (cAt s u)
@@ -35,7 +35,9 @@ c-affine s u = record {
   α = negℤ (u .y);
   β = u .x;
   γ = u .y *ℤ s .x -ℤ u .x *ℤ s .y;
-  is = λ p. ring 6 (λ sx sy ux uy px py. cE sx sy ux uy px py := :neg uy :* px :+ ux :* py :+ (uy :* sx :- ux :* sy)) tt (s .x) (s .y) (u .x) (u .y) (p .x) (p .y);
+  is =
+      ring-of 3 0 (λ s u p. cAtE s u p := :neg (u .y) :* p .x :+ u .x :* p .y :+ (u .y :* s .x :- u .x :* s .y)) tt
+      s u;
 }
 
 pub t-affine : (s u : Point) → Affine (tAt s u)
@@ -43,5 +45,5 @@ t-affine s u = record {
   α = u .x;
   β = u .y;
   γ = negℤ (u .x *ℤ s .x +ℤ u .y *ℤ s .y);
-  is = λ p. ring 6 (λ sx sy ux uy px py. tE sx sy ux uy px py := ux :* px :+ uy :* py :+ :neg (ux :* sx :+ uy :* sy)) tt (s .x) (s .y) (u .x) (u .y) (p .x) (p .y);
+  is = ring-of 3 0 (λ s u p. tAtE s u p := u .x :* p .x :+ u .y :* p .y :+ :neg (u .x :* s .x :+ u .y :* s .y)) tt s u;
 }

@@ -1,26 +1,36 @@
--- The checks before a walk: which of two lists refuses, and what it tells that none does: not one of them holds, and so a
+-- The checks before a walk: which of two lists refuses, and what it tells that none does: not one of them holds, and so
+-- a
 -- line has a segment.
 use mathlib.Core.Path.{_≡_, refl, _∙_, ap, subst}
 use mathlib.Core.Bool.{Bool, true, false, cond}
 use mathlib.Core.List.{List, [], _∷_, _++_}
 use mathlib.Core.Option.{Option, none, some, IsSome}
-use Prim.Native.Nat.{_≤_}
+use Prim.Native.Nat.{_*_, _%_, _≤_}
 use native.Mathlib.Omega.{arith}
-use borrow.Author.Tests.{ltb-false}
+use borrow.Author.Tests.{ltb-false, le-ltb, eqb-false, ne-eqb}
 use lib.IntN.{ℤ}
+use lib.ListN.{length}
 use Rattle.rules.specs.declared.Line.{Line}
 use Rattle.rules.specs.declared.Refusal.{Refusal}
-use Rattle.rules.specs.Sheet.{pointsOf, segmentsOf, fewest}
+use Rattle.rules.specs.Sheet.{pointsOf, segmentsOf, fewest, most}
+use Rattle.rules.specs.Tree.{width, rowCount}
 use Rattle.rules.specs.Reply.{Check, early, firstRefusal}
 use Rattle.rules.specs.Rows.{lengthChecks}
+use Rattle.visits.specs.Fine.{LengthsFine}
 pub use Rattle.visits.specs.Clear.{Clear}
+
+-- pairs of pairs, as Clear asks for them
+infixr 4 _then_
+pub _then_ : {A B : Type 0} → A → B → A × B
+a then b = (a, b)
 
 -- nothing is refused exactly where no check holds
 pub none-clear : (ks : List Check) → firstRefusal ks ≡ none → Clear ks
 none-clear [] e = tt
 none-clear (k ∷ ks) e = go (k .holds) e (none-clear ks)
   where
-    go : (b : Bool) → cond b (some (early k)) (firstRefusal ks) ≡ none → (firstRefusal ks ≡ none → Clear ks) → (b ≡ false) × Clear ks
+    go : (b : Bool) → cond b (some (early k)) (firstRefusal ks) ≡ none → (firstRefusal ks ≡ none → Clear ks)
+        → (b ≡ false) × Clear ks
     go true e f = absurd (subst IsSome e tt)
     go false e f = (refl, f e)
 
@@ -45,18 +55,42 @@ orElse (some a) r = some a
 -- two lists of checks in a row refuse what the first does, and else what the second does
 pub first-append : (ks ls : List Check) → firstRefusal (ks ++ ls) ≡ orElse (firstRefusal ks) (firstRefusal ls)
 first-append [] ls = refl
-first-append (k ∷ ks) ls = ap (λ (r : Option Refusal). cond (k .holds) (some (early k)) r) (first-append ks ls) ∙ go (k .holds)
+first-append (k ∷ ks) ls = go (k .holds) (first-append ks ls)
   where
-    go : (b : Bool) → cond b (some (early k)) (orElse (firstRefusal ks) (firstRefusal ls)) ≡ orElse (cond b (some (early k)) (firstRefusal ks)) (firstRefusal ls)
-    go true = refl
-    go false = refl
+    go : (b : Bool) {o : Option Refusal} → o ≡ orElse (firstRefusal ks) (firstRefusal ls)
+        → cond b (some (early k)) o ≡ orElse (cond b (some (early k)) (firstRefusal ks)) (firstRefusal ls)
+    go true e = refl
+    go false e = e
+
+-- ---------------- a line's lengths
+
+module _ (l : Line) (ps t : List ℤ) where
+  -- none of their checks holds exactly where they are fine
+  pub lengths-read : Clear (lengthChecks l ps t) → LengthsFine ps t
+  lengths-read c = record {
+    even = omega (arith, eqb-false (length ps % 2) 1 (c .0));
+    some-points = ltb-false (pointsOf ps) fewest (c .1 .0);
+    not-more = ltb-false most (pointsOf ps) (c .1 .1 .0);
+    table-long = ltb-false (length t) (width * rowCount (segmentsOf ps)) (c .1 .1 .1 .0);
+  }
+
+  pub lengths-clear : LengthsFine ps t → Clear (lengthChecks l ps t)
+  lengths-clear f =
+      ne-eqb (length ps % 2) 1 (omega (arith, f .even))
+      then le-ltb (pointsOf ps) fewest (f .some-points)
+      then le-ltb most (pointsOf ps) (f .not-more)
+      then le-ltb (length t) (width * rowCount (segmentsOf ps)) (f .table-long)
+      then tt
 
 -- where the checks of a line's lengths, and then others, do not refuse ..
 module _ (l : Line) (ps t : List ℤ) (rest : List Check) (e : firstRefusal (lengthChecks l ps t ++ rest) ≡ none) where
+  clear : Clear (lengthChecks l ps t) × Clear rest
+  clear = clear-parts (lengthChecks l ps t) rest (none-clear (lengthChecks l ps t ++ rest) e)
+
   -- .. the line has a segment
   pub some-segment : 1 ≤ segmentsOf ps
-  some-segment = let h = ltb-false (pointsOf ps) fewest (none-clear (lengthChecks l ps t ++ rest) e .1 .0) in omega arith
+  some-segment = omega (arith, lengths-read l ps t (clear .0) .some-points)
 
   -- .. and the others do not refuse either
   pub rest-none : firstRefusal rest ≡ none
-  rest-none = clear-none rest (clear-parts (lengthChecks l ps t) rest (none-clear (lengthChecks l ps t ++ rest) e) .1)
+  rest-none = clear-none rest (clear .1)

@@ -1,8 +1,9 @@
 -- Laws of what is joined over a row of numbers: some, every, an odd number of them.
-use mathlib.Core.Path.{_≡_, refl, sym, _∙_, ap, subst}
-use mathlib.Core.Bool.{Bool, true, false, _&&_, _||_, or-assoc, and-assoc, or-true, or-false, false≢true}
+use mathlib.Core.Path.{_≡_, refl, _∙_, ap, subst}
+use mathlib.Core.Bool.{Bool, true, false, _||_, or-assoc, or-true, false≢true}
 use Prim.Native.Nat.{ℕ, zero, suc, _+_, _≤_, _<_}
 use native.Mathlib.Decide.{ℕ-discrete}
+use native.Mathlib.Nat.{add-zero, add-suc, zero-add, suc-add}
 use native.Mathlib.Omega.{arith}
 use lib.Dec.{T}
 use mir.Facts.{and-yes, yes-and}
@@ -28,42 +29,22 @@ pub ⊕-false : (a : Bool) → a ⊕ false ≡ a
 -- ---------------- any associative operation with a unit on the left
 module _ (join : Bool → Bool → Bool) (none : Bool) (unit : (b : Bool) → join none b ≡ b)
     (assoc : (a b c : Bool) → join (join a b) c ≡ join a (join b c)) (p : ℕ → Bool) where
-  pub joined-append : (i j k : ℕ) → joined join none p i (j + k) ≡ join (joined join none p i j) (joined join none p (i + j) k)
+  pub joined-append : (i j k : ℕ)
+      → joined join none p i (j + k) ≡ join (joined join none p i j) (joined join none p (i + j) k)
   unfolding joined
-  joined-append i zero k = (λ d. joined join none p (start d) (rest d)) ∙ sym (unit (joined join none p (i + 0) k))
-    where
-      start : i ≡ i + 0
-      start = omega arith
-
-      rest : 0 + k ≡ k
-      rest = omega arith
+  joined-append i zero k = rw (zero-add, add-zero, unit)
   joined-append i (suc j) k =
-      ap (joined join none p i) more
-      ∙ ap (join (p i)) (joined-append (suc i) j k ∙ ap (λ (m : ℕ). join (joined join none p (suc i) j) (joined join none p m k)) along)
-      ∙ sym (assoc (p i) (joined join none p (suc i) j) (joined join none p (i + suc j) k))
-    where
-      more : suc j + k ≡ suc (j + k)
-      more = omega arith
-
-      along : suc i + j ≡ i + suc j
-      along = omega arith
+      rw (suc-add j k, assoc, add-suc i j, ← suc-add i j) (ap (join (p i)) (joined-append (suc i) j k))
 
 -- two properties that are the same on rows of k numbers, from i and from j on, are joined to the same
 pub joined-moved : (join : Bool → Bool → Bool) (none : Bool) (p q : ℕ → Bool) (i j k : ℕ)
     → ((m : ℕ) → m < k → p (i + m) ≡ q (j + m)) → joined join none p i k ≡ joined join none q j k
 unfolding joined
 joined-moved join none p q i j zero h = refl
-joined-moved join none p q i j (suc k) h = λ d.
-    join (first d) (joined-moved join none p q (suc i) (suc j) k (λ m l. ap p (along i m) ∙ h (suc m) (omega arith) ∙ ap q (sym (along j m))) d)
-  where
-    along : (i m : ℕ) → suc i + m ≡ i + suc m
-    along i m = omega arith
-
-    here : (i : ℕ) → i ≡ i + 0
-    here i = omega arith
-
-    first : p i ≡ q j
-    first = ap p (here i) ∙ h 0 (omega arith) ∙ ap q (sym (here j))
+joined-moved join none p q i j (suc k) h =
+    let first : p i ≡ q j = simp add-zero at (h 0 (omega arith)) in
+    λ d. join (first d)
+    (joined-moved join none p q (suc i) (suc j) k (λ m l. simp suc-add (simp add-suc at (h (suc m) (omega arith)))) d)
 
 -- and so two that are the same on the numbers i to i + k - 1
 pub joined-same : (join : Bool → Bool → Bool) (none : Bool) (p q : ℕ → Bool) (i k : ℕ)
@@ -80,23 +61,15 @@ joined-one join none unit p i = unit (p i)
 pub someOf-append : (p : ℕ → Bool) (i j k : ℕ) → someOf p i (j + k) ≡ someOf p i j || someOf p (i + j) k
 someOf-append = joined-append _||_ false (λ b. refl) or-assoc
 
-pub everyOf-append : (p : ℕ → Bool) (i j k : ℕ) → everyOf p i (j + k) ≡ everyOf p i j && everyOf p (i + j) k
-everyOf-append = joined-append _&&_ true (λ b. refl) and-assoc
-
 pub oddOf-append : (p : ℕ → Bool) (i j k : ℕ) → oddOf p i (j + k) ≡ oddOf p i j ⊕ oddOf p (i + j) k
 oddOf-append = joined-append _⊕_ false (λ b. refl) ⊕-assoc
-
-pub someOf-one : (p : ℕ → Bool) (i : ℕ) → someOf p i 1 ≡ p i
-someOf-one = joined-one _||_ false or-false
-
-pub oddOf-one : (p : ℕ → Bool) (i : ℕ) → oddOf p i 1 ≡ p i
-oddOf-one = joined-one _⊕_ false ⊕-false
 
 -- ---------------- some
 pub someOf-none : (p : ℕ → Bool) (i k : ℕ) → ((j : ℕ) → i ≤ j → j < i + k → p j ≡ false) → someOf p i k ≡ false
 unfolding joined
 someOf-none p i zero h = refl
-someOf-none p i (suc k) h = λ d. h i (omega arith) (omega arith) d || someOf-none p (suc i) k (λ j l m. h j (omega arith) (omega arith)) d
+someOf-none p i (suc k) h =
+    λ d. h i (omega arith) (omega arith) d || someOf-none p (suc i) k (λ j l m. h j (omega arith) (omega arith)) d
 
 pub someOf-make : (p : ℕ → Bool) (i k j : ℕ) → i ≤ j → j < i + k → p j ≡ true → someOf p i k ≡ true
 unfolding joined
@@ -115,7 +88,8 @@ unfolding joined
 someOf-read p i zero e = absurd (false≢true e)
 someOf-read p i (suc k) e = go (p i) refl e (someOf-read p (suc i) k)
   where
-    go : (b : Bool) → p i ≡ b → b || someOf p (suc i) k ≡ true → (someOf p (suc i) k ≡ true → Somewhere p (suc i) k) → Somewhere p i (suc k)
+    go : (b : Bool) → p i ≡ b → b || someOf p (suc i) k ≡ true → (someOf p (suc i) k ≡ true → Somewhere p (suc i) k)
+        → Somewhere p i (suc k)
     go true q e ih = (i, omega arith, omega arith, q)
     go false q e ih = let r = ih e in (r .0, omega (arith, r .1), omega (arith, r .2), r .3)
 
@@ -125,10 +99,14 @@ unfolding joined
 everyOf-read p i zero h j l m = absurd (omega arith)
 everyOf-read p i (suc k) h j l m =
     let q = and-yes (p i) (everyOf p (suc i) k) h in
-    elim (ℕ-discrete i j) [ yes e ↦ subst (λ (n : ℕ). T (p n)) e (q .0) | no e ↦ everyOf-read p (suc i) k (q .1) j (omega arith) (omega arith) ]
+    elim (ℕ-discrete i j) [
+      | yes e ↦ subst (λ (n : ℕ). T (p n)) e (q .0)
+      | no e ↦ everyOf-read p (suc i) k (q .1) j (omega arith) (omega arith)
+    ]
 
 pub everyOf-make : (p : ℕ → Bool) (i k : ℕ) → ((j : ℕ) → i ≤ j → j < i + k → T (p j)) → T (everyOf p i k)
 unfolding joined
 everyOf-make p i zero h = tt
 everyOf-make p i (suc k) h =
-    yes-and (p i) (everyOf p (suc i) k) (h i (omega arith) (omega arith)) (everyOf-make p (suc i) k (λ j l m. h j (omega arith) (omega arith)))
+    yes-and (p i) (everyOf p (suc i) k) (h i (omega arith) (omega arith))
+    (everyOf-make p (suc i) k (λ j l m. h j (omega arith) (omega arith)))

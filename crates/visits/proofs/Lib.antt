@@ -1,9 +1,9 @@
 -- Theorems about the written walk, and what all questions share: rows, sound tables, the checks before a walk, replies.
 pub mod Tests
 pub mod Terms
+pub mod Points
+pub mod Weights
 pub mod Affine
-pub mod OnSheets
-pub mod Sizes
 pub mod Counts
 pub mod Runs
 pub mod Checks
@@ -13,3 +13,4 @@ pub mod Replies
 pub mod Nodes
 pub mod Held
 pub mod Sound
+pub mod Visits

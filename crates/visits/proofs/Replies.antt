@@ -6,7 +6,9 @@ use mathlib.Core.Option.{Option, none, some}
 use Prim.Native.Nat.{ℕ, suc}
 use Rattle.rules.specs.declared.Refusal.{Refusal}
 use Rattle.rules.specs.declared.Tally.{Tally}
-use Rattle.rules.specs.Reply.{Reply, YES, NO, orRefused}
+use Rattle.rules.specs.declared.Word.the-variants.{YES, NO}
+use Rattle.rules.specs.declared.Reply.{Reply}
+use Rattle.rules.specs.Reply.{orRefused}
 use Rattle.rules.specs.Walk.{Visit, Walked, ended, over, spent, refused, walk}
 use Rattle.rules.specs.Questions.{Nothing, yesOrNo}
 use Rattle.visits.specs.Tells.{Right, Tells}
@@ -28,7 +30,8 @@ module _ {N : Type 0} (visit : N → Visit Nothing N) (Good : ℕ → N → Type
   walk-truthful f n y g = tells-truthful n (walk visit f n tt y) (walk-tells visit Good hit (λ m s. s) right f n tt y g)
 
 -- and so is the reply
-pub reply-truthful : (b : Bool) (allowance : ℕ) (w : Walked Nothing) → WalkTruthful b w → Truthful b (yesOrNo allowance w)
+pub reply-truthful : (b : Bool) (allowance : ℕ) (w : Walked Nothing) → WalkTruthful b w
+    → Truthful b (yesOrNo allowance w)
 reply-truthful b allowance (ended y) h = inr (ap (λ (c : Bool). cond c YES NO) (sym h))
 reply-truthful b allowance (over k y) h = inr (ap (λ (c : Bool). cond c YES NO) (sym h))
 reply-truthful b allowance spent h = inl refl
@@ -47,6 +50,7 @@ sure true r (inr e) = (λ _. refl, λ o. cc)
 sure false r (inr e) = (λ o. cc, λ _. refl)
 
 -- also of a reply that an early refusal may have taken the place of: that says neither YES nor NO
-pub sure-or-refused : (b : Bool) (o : Option Refusal) (r : Reply) → (o ≡ none → Truthful b (orRefused o r)) → Sure b (orRefused o r)
+pub sure-or-refused : (b : Bool) (o : Option Refusal) (r : Reply) → (o ≡ none → Truthful b (orRefused o r))
+    → Sure b (orRefused o r)
 sure-or-refused b none r h = sure b r (h refl)
 sure-or-refused b (some f) r h = (λ o. cc, λ o. cc)

@@ -1,16 +1,17 @@
--- What is joined over the segments of a node: over its halves, over the one segment of a leaf, and where no segment has it.
--- A run's segments are those of its halves, as both share the split point.
+-- What is joined over the segments of a node: over its halves, over the one segment of a leaf, and where no segment
+-- has it. A run's segments are those of its halves, as both share the split point.
 use mathlib.Core.Path.{_≡_, refl, sym, _∙_, ap}
 use mathlib.Core.Bool.{Bool, false, _||_, or-assoc, or-false}
 use mathlib.Core.List.{List}
 use Prim.Native.Nat.{ℕ, suc, _+_, _-_, _≤_, _<_}
+use native.Mathlib.Nat.{sub-zero}
 use native.Mathlib.Omega.{arith}
 use lib.IntN.{ℤ}
 use Rattle.rules.specs.declared.Node.{Node}
 use Rattle.rules.specs.declared.Point.{Point}
-use Rattle.rules.specs.Sheet.{point}
+use Rattle.rules.specs.Sheet.{point, segmentsOf}
 use Rattle.rules.specs.Plain.{joined, _⊕_}
-use Rattle.rules.specs.Questions.{leftOf, rightOf, size, startOf, endOf}
+use Rattle.rules.specs.Questions.{root, leftOf, rightOf, size, startOf, endOf}
 use Rattle.visits.proofs.Counts.{⊕-assoc, ⊕-false, joined-append, joined-one, someOf-none}
 
 -- p of the segments of a node, joined
@@ -28,7 +29,8 @@ oddIn = joinedIn _⊕_ false
 
 -- what is joined over a run is joined over its halves
 joined-halves : (join : Bool → Bool → Bool) (none : Bool) → ((b : Bool) → join none b ≡ b)
-    → ((a b c : Bool) → join (join a b) c ≡ join a (join b c)) → (p : ℕ → Bool) (n : Node) (s : ℕ) → n .first < s → s < n .last
+    → ((a b c : Bool) → join (join a b) c ≡ join a (join b c)) → (p : ℕ → Bool) (n : Node) (s : ℕ) → n .first < s
+    → s < n .last
     → joinedIn join none p n ≡ join (joinedIn join none p (leftOf n s)) (joinedIn join none p (rightOf n s))
 joined-halves join none unit assoc p n s low high =
     ap (joined join none p (n .first)) parted
@@ -41,12 +43,18 @@ joined-halves join none unit assoc p n s low high =
     met : n .first + (s - n .first) ≡ s
     met = omega arith
 
+-- over the whole line, at its root
+pub joined-root : (join : Bool → Bool → Bool) (none : Bool) (p : ℕ → Bool) (ps : List ℤ)
+    → joinedIn join none p (root ps) ≡ joined join none p 0 (segmentsOf ps)
+joined-root join none p ps = ap (joined join none p 0) (sub-zero (segmentsOf ps))
+
 -- a leaf has one segment, from its start to its end
 joined-leaf : (join : Bool → Bool → Bool) (none : Bool) → ((b : Bool) → join b none ≡ b)
     → (ps : List ℤ) (q : Point → Point → Bool) (n : Node) → n .last ≡ suc (n .first)
     → joinedIn join none (λ i. q (point ps i) (point ps (suc i))) n ≡ q (startOf ps n) (endOf ps n)
 joined-leaf join none unit ps q n e =
-    ap (joined join none segment (n .first)) one ∙ joined-one join none unit segment (n .first) ∙ ap (λ (j : ℕ). q (startOf ps n) (point ps j)) (sym e)
+    ap (joined join none segment (n .first)) one ∙ joined-one join none unit segment (n .first)
+    ∙ ap (λ (j : ℕ). q (startOf ps n) (point ps j)) (sym e)
   where
     segment : ℕ → Bool
     segment i = q (point ps i) (point ps (suc i))
@@ -56,10 +64,12 @@ joined-leaf join none unit ps q n e =
 
 -- ---------------- some, and an odd number
 
-pub some-halves : (p : ℕ → Bool) (n : Node) (s : ℕ) → n .first < s → s < n .last → someIn p n ≡ someIn p (leftOf n s) || someIn p (rightOf n s)
+pub some-halves : (p : ℕ → Bool) (n : Node) (s : ℕ) → n .first < s → s < n .last
+    → someIn p n ≡ someIn p (leftOf n s) || someIn p (rightOf n s)
 some-halves = joined-halves _||_ false (λ b. refl) or-assoc
 
-pub odd-halves : (p : ℕ → Bool) (n : Node) (s : ℕ) → n .first < s → s < n .last → oddIn p n ≡ oddIn p (leftOf n s) ⊕ oddIn p (rightOf n s)
+pub odd-halves : (p : ℕ → Bool) (n : Node) (s : ℕ) → n .first < s → s < n .last
+    → oddIn p n ≡ oddIn p (leftOf n s) ⊕ oddIn p (rightOf n s)
 odd-halves = joined-halves _⊕_ false (λ b. refl) ⊕-assoc
 
 pub some-leaf : (ps : List ℤ) (q : Point → Point → Bool) (n : Node) → n .last ≡ suc (n .first)

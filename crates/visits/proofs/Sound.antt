@@ -1,4 +1,5 @@
--- A node of a sound table with all that is below it, under whatever number of levels is enough for it: its row is good and
+-- A node of a sound table with all that is below it, under whatever number of levels is enough for it: its row is good
+-- and
 -- holds its points, its rows stand in the table, and its halves are such nodes again.
 use mathlib.Core.Path.{_≡_}
 use mathlib.Core.Bool.{true}
@@ -7,7 +8,7 @@ use Prim.Native.Nat.{ℕ, zero, suc, _+_, _≤_, _<_}
 use native.Mathlib.Omega.{arith}
 use lib.Dec.{T}
 use lib.IntN.{ℤ}
-use Rattle.whole.specs.Order.{yes-T}
+use Rattle.integers.specs.Order.{yes-T}
 use Rattle.rules.specs.declared.Line.{Line}
 use Rattle.rules.specs.declared.Node.{Node}
 use Rattle.rules.specs.Sheet.{point, segmentsOf}
@@ -16,7 +17,9 @@ use Rattle.rules.specs.Rows.{good}
 use Rattle.rules.specs.Walk.{Visit}
 use Rattle.rules.specs.Questions.{root, leftOf, rightOf, splitIn, startOf, headingOf, openNode}
 use Rattle.rules.specs.Build.{soundFrom, sound}
-use Rattle.visits.proofs.Nodes.{GoodRow, good-read, Fits, root-fits, fits-left, fits-right, open-fits, SoundNode, sound-read}
+use Rattle.visits.specs.Nodes.{Inner, Fits}
+use Rattle.visits.proofs.Nodes.{GoodRow, good-read, root-fits, fits-left, fits-right, open-fits, SoundNode}
+use Rattle.visits.proofs.Nodes.{sound-read}
 use Rattle.visits.proofs.Held.{Held, held}
 
 pub record SoundTree (ps t : List ℤ) (n : Node) : Type 0 where
@@ -25,9 +28,11 @@ pub record SoundTree (ps t : List ℤ) (n : Node) : Type 0 where
   pub node : SoundNode levels ps t n
   pub fits : Fits (rowCount (segmentsOf ps)) n
 
-tree : {ps t : List ℤ} {n : Node} (f : ℕ) → T (soundFrom f ps t n) → n .last ≤ f + n .first → Fits (rowCount (segmentsOf ps)) n → SoundTree ps t n
-tree zero h e k = absurd (let l = k .some-segment in omega arith)
-tree {ps} {t} {n} (suc f) h e k = record { levels = f; enough = e; node = sound-read f ps t n (k .some-segment) h; fits = k }
+tree : {ps t : List ℤ} {n : Node} (f : ℕ) → T (soundFrom f ps t n) → n .last ≤ f + n .first
+    → Fits (rowCount (segmentsOf ps)) n → SoundTree ps t n
+tree zero h e k = absurd (omega (arith, k .some-segment))
+tree {ps} {t} {n} (suc f) h e k =
+    record { levels = f; enough = e; node = sound-read f ps t n (k .some-segment) h; fits = k }
 
 -- the root of a sound table
 pub root-tree : (ps t : List ℤ) → T (sound ps t) → 1 ≤ segmentsOf ps → SoundTree ps t (root ps)
@@ -43,7 +48,8 @@ module _ {ps t : List ℤ} {n : Node} (g : SoundTree ps t n) where
   row-read = good-read ps (rowAt t (n .row)) (n .first) (n .last) (g .node .row-good)
 
   -- strip and box hold each point of the run
-  pub row-holds : (i : ℕ) → n .first ≤ i → i ≤ n .last → Held (rowAt t (n .row)) (startOf ps n) (headingOf ps n) (point ps i)
+  pub row-holds : (i : ℕ) → n .first ≤ i → i ≤ n .last
+      → Held (rowAt t (n .row)) (startOf ps n) (headingOf ps n) (point ps i)
   row-holds i a b = held (rowAt t (n .row)) ps (n .first) (n .last) (point ps i) (g .node .holds i a b)
 
   -- a leaf ends at the next point
@@ -55,18 +61,22 @@ module _ {ps t : List ℤ} {n : Node} (g : SoundTree ps t n) where
   splitAt = splitIn (rowAt t (n .row))
 
   module _ (more : n .first + 1 < n .last) where
+    inner : Inner (n .first) splitAt (n .last)
+    inner = row-read .split-between more
+
     pub low : n .first < splitAt
-    low = row-read .split-between more .0
+    low = inner .above
 
     pub high : splitAt < n .last
-    high = row-read .split-between more .1
+    high = inner .below
 
     pub left-tree : SoundTree ps t (leftOf n splitAt)
-    left-tree = tree (g .levels) (g .node .halves more .0) (omega (arith, g .enough, high)) (fits-left _ n (g .fits) splitAt low high)
+    left-tree = tree (g .levels) (g .node .halves more .0) (omega (arith, g .enough, high)) (fits-left (g .fits) inner)
 
     pub right-tree : SoundTree ps t (rightOf n splitAt)
-    right-tree = tree (g .levels) (g .node .halves more .1) (omega (arith, g .enough, low)) (fits-right _ n (g .fits) splitAt low high)
+    right-tree = tree (g .levels) (g .node .halves more .1) (omega (arith, g .enough, low)) (fits-right (g .fits) inner)
 
     -- refusal 11 does not come: the visit goes on to the halves
-    pub opens : {S N : Type 0} (l : Line) (go : Node → Node → Visit S N) → openNode l ps n splitAt go ≡ go (leftOf n splitAt) (rightOf n splitAt)
-    opens l go = open-fits l ps n splitAt go (g .fits) low high
+    pub opens : {S N : Type 0} (l : Line) (go : Node → Node → Visit S N)
+        → openNode l ps n splitAt go ≡ go (leftOf n splitAt) (rightOf n splitAt)
+    opens l go = open-fits l ps go (g .fits) inner

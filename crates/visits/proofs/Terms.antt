@@ -1,8 +1,8 @@
 -- Document 01's c, t and |u|² as terms of the checker; and c and t are 0 at the start.
 use mathlib.Core.Path.{_≡_}
 use lib.IntN.{pos}
-use Rattle.whole.specs.Poly.{Expr, con, _:+_, _:*_, _:-_}
-use Rattle.whole.specs.Check.{_:=_, ring}
+use Rattle.integers.specs.Poly.{Expr, con, _:+_, _:*_, _:-_}
+use Rattle.integers.specs.Check.{_:=_, ring}
 use Rattle.rules.specs.declared.Point.{Point}
 use Rattle.rules.specs.Plane.{cAt, tAt}
 

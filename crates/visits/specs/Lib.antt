@@ -1,5 +1,7 @@
--- What the theorems about walks and checks are said with, and the sizes of points on the sheet.
+-- What the theorems about walks and checks are said with, and the points of a segment.
 pub mod Tells
 pub mod Truthful
-pub mod Small
 pub mod Clear
+pub mod Weights
+pub mod Fine
+pub mod Nodes

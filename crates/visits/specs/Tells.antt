@@ -1,4 +1,5 @@
--- What it means that a visit is right, and that a walk tells the truth. A node's truth is two things: whether something in it
+-- What it means that a visit is right, and that a walk tells the truth. A node's truth is two things: whether something
+-- in it
 -- ends the walk (`hit`), and what it adds to the count (`add`).
 use mathlib.Core.Path.{_≡_}
 use mathlib.Core.Bool.{Bool, true, false, _||_}
@@ -13,7 +14,8 @@ module _ {S N : Type 0} (hit : N → Bool) (add : N → S → S) where
   Tells n s spent = Unit {0}
   Tells n s (refused r) = ⊥
 
-  -- a visit is right about a node whose halves may have this many levels: it refuses nothing, and what it does is the truth
+  -- a visit is right about a node whose halves may have this many levels: it refuses nothing, and what it does is the
+  -- truth
   abbrev pub Right : (ℕ → N → Type 0) → ℕ → N → Visit S N → Type 0
   Right Good f n (refuse number line place) = ⊥
   Right Good f n finish = hit n ≡ true

@@ -11,7 +11,8 @@ use Rattle.numerals.specs.Numerals.{allDigits, valueFrom, numeral}
 use Rattle.words.specs.declared.Record.{Record}
 use Rattle.words.specs.declared.Record.the-variants.{Start, Pt, Near, In, Meet, Agree, NotUnderstood}
 use Rattle.words.specs.Fields.{fields, sameBytes}
-use Rattle.words.specs.Records.{recordOf}
+use Rattle.words.specs.Numbers.{understood}
+use Rattle.words.specs.Records.{is, recordOf}
 
 abbrev bytes : String → List ℕ
 bytes string.[] = []
@@ -49,5 +50,34 @@ pub texts-read :
     × (read "LINE\tC" ≡ NotUnderstood)
     × (read "LINE\tA\r" ≡ NotUnderstood)
     × (read "" ≡ NotUnderstood)
-unfolding recordOf fields sameBytes numeral allDigits valueFrom
-texts-read = (refl, refl, refl, refl, refl, refl, refl, refl, refl, refl, refl, refl, refl, refl, refl, refl, refl, refl, refl, refl, refl, refl, refl, refl, refl, refl, refl, refl)
+unfolding recordOf is understood fields sameBytes numeral allDigits valueFrom
+texts-read = (
+  refl,
+  refl,
+  refl,
+  refl,
+  refl,
+  refl,
+  refl,
+  refl,
+  refl,
+  refl,
+  refl,
+  refl,
+  refl,
+  refl,
+  refl,
+  refl,
+  refl,
+  refl,
+  refl,
+  refl,
+  refl,
+  refl,
+  refl,
+  refl,
+  refl,
+  refl,
+  refl,
+  refl,
+)

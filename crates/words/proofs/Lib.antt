@@ -1,4 +1,5 @@
--- Laws of fields and records, for the proofs of the functions that read them.
+-- Laws of fields, numbers and records, for the proofs of the functions that read them.
 pub mod Fields
-pub mod Records
+pub mod Readings
+pub mod Choice
 pub mod Figures

@@ -3,6 +3,7 @@ use mathlib.Core.Bool.{Bool, true, false, cond, _&&_}
 use mathlib.Core.List.{List, [], _∷_}
 use Prim.Native.Nat.{ℕ, zero, suc}
 use lib.Dec.{eqb}
+use lib.ListN.{getD}
 
 abbrev pub tab : ℕ
 tab = 9
@@ -19,6 +20,10 @@ ontoFirst b (f ∷ fs) = (b ∷ f) ∷ fs
 unfoldable pub fields : List ℕ → List (List ℕ)
 fields [] = [] ∷ []
 fields (b ∷ bs) = let rest = fields bs in cond (eqb b tab) ([] ∷ rest) (ontoFirst b rest)
+
+-- field k, empty where there is none
+abbrev pub field : List (List ℕ) → ℕ → List ℕ
+field fs k = getD fs k []
 
 -- byte for byte
 unfoldable pub sameBytes : List ℕ → List ℕ → Bool

@@ -1,16 +1,16 @@
-// How a text line of the question program is read: its fields, its numbers, the record that it is. `record_of` holds for
-// every list of bytes; the functions below it say their results by the definitions of `specs/`.
+// How a text line of the question program is read: its fields, the form and the numbers of its record, the record.
+// `record_of` holds for every list of bytes; the functions above it say their results by the definitions of `specs/`.
 use numerals::Number;
 use numerals::within;
 use rules::Line;
 ghost use mathlib.Core.Path.{_≡_};
-ghost use mathlib.Core.Bool.{_&&_};
 ghost use Prim.Native.Nat.{_≤_};
-ghost use lib.Dec.{eqb};
 ghost use lib.ListN.{length};
-ghost use Rattle.words.specs.Fields.{fields, sameBytes};
-ghost use Rattle.words.specs.Records.{field, lineNamed, recordOf};
-ghost use Rattle.words.specs.Said.{coordSaid, visitsSaid, coordinateAt, allowanceAt, ptIn, nearIn, inIn, meetIn, agreeIn};
+ghost use Rattle.numerals.specs.Numerals.{inRange};
+ghost use Rattle.numerals.specs.Read.{numberRead};
+ghost use Rattle.words.specs.Fields.{fields, field, sameBytes};
+ghost use Rattle.words.specs.Records.{is, lineNamed, formOf, at, placesOf, madeOf, recordOf};
+ghost use Rattle.words.specs.Numbers.{numberAt, coordRead, coordinateAt, visitsRead, allowanceAt, numbersAt};
 
 // A text line, read.
 pub enum Record {
@@ -44,6 +44,35 @@ enum Coord {
 // A field read as an allowance.
 enum Visits {
     AtMost(u32),
+    Nothing,
+}
+
+// The records that hold numbers.
+enum Form {
+    Pt,
+    Near,
+    In,
+    Meet,
+    Agree,
+    Other,
+}
+
+// The field of each number of a record, 0 where the record has none.
+struct Places {
+    x: usize,
+    y: usize,
+    distance: usize,
+    allowance: usize,
+}
+
+// The numbers of a record, 0 for each that it has not.
+enum Numbers {
+    All {
+        x: i32,
+        y: i32,
+        distance: i32,
+        allowance: u32,
+    },
     Nothing,
 }
 
@@ -110,24 +139,14 @@ fn same_bytes(f: &[u8], word: &[u8]) -> bool
     true
 }
 
-// Field k as a coordinate or a distance.
-fn coordinate(text: &[u8], k: usize) -> Coord
-    ensures { λ r. ⌜ coordSaid r ≡ coordinateAt (now (text .entry)) k ⌝ }
+// Whether there are as many fields as wanted, and the first is the word.
+fn is(count: usize, first: &[u8], word: &[u8], wanted: usize) -> bool
+    ensures { λ r. ⌜ r ≡ is count (now (first .entry)) (now (word .entry)) wanted ⌝ }
 {
-    let Number::Whole(z) = within(field(text, k), -2147483648, 2147483647) else {
-        return Coord::Nothing;
-    };
-    Coord::At(z as i32)
-}
-
-// Field k as an allowance.
-fn allowance(text: &[u8], k: usize) -> Visits
-    ensures { λ r. ⌜ visitsSaid r ≡ allowanceAt (now (text .entry)) k ⌝ }
-{
-    let Number::Whole(z) = within(field(text, k), 0, 4294967295) else {
-        return Visits::Nothing;
-    };
-    Visits::AtMost(z as u32)
+    if count != wanted {
+        return false;
+    }
+    same_bytes(first, word)
 }
 
 fn line_named(f: &[u8]) -> Record
@@ -142,34 +161,31 @@ fn line_named(f: &[u8]) -> Record
     Record::NotUnderstood
 }
 
-fn pt(text: &[u8]) -> Record
-    ensures { λ r. ⌜ r ≡ ptIn (now (text .entry)) ⌝ }
+fn form_of(count: usize, first: &[u8]) -> Form
+    ensures { λ r. ⌜ r ≡ formOf count (now (first .entry)) ⌝ }
 {
-    let Coord::At(x) = coordinate(text, 1) else {
-        return Record::NotUnderstood;
-    };
-    let Coord::At(y) = coordinate(text, 2) else {
-        return Record::NotUnderstood;
-    };
-    Record::Pt(x, y)
+    if is(count, first, b"PT", 3) {
+        return Form::Pt;
+    }
+    if is(count, first, b"NEAR", 5) {
+        return Form::Near;
+    }
+    if is(count, first, b"IN", 4) {
+        return Form::In;
+    }
+    if is(count, first, b"MEET", 2) {
+        return Form::Meet;
+    }
+    if is(count, first, b"AGREE", 3) {
+        return Form::Agree;
+    }
+    Form::Other
 }
 
-fn near(text: &[u8]) -> Record
-    ensures { λ r. ⌜ r ≡ nearIn (now (text .entry)) ⌝ }
+fn at(x: usize, y: usize, distance: usize, allowance: usize) -> Places
+    ensures { λ r. ⌜ r ≡ at x y distance allowance ⌝ }
 {
-    let Coord::At(x) = coordinate(text, 1) else {
-        return Record::NotUnderstood;
-    };
-    let Coord::At(y) = coordinate(text, 2) else {
-        return Record::NotUnderstood;
-    };
-    let Coord::At(distance) = coordinate(text, 3) else {
-        return Record::NotUnderstood;
-    };
-    let Visits::AtMost(allowance) = allowance(text, 4) else {
-        return Record::NotUnderstood;
-    };
-    Record::Near {
+    Places {
         x,
         y,
         distance,
@@ -177,53 +193,98 @@ fn near(text: &[u8]) -> Record
     }
 }
 
-fn inside(text: &[u8]) -> Record
-    ensures { λ r. ⌜ r ≡ inIn (now (text .entry)) ⌝ }
+fn places_of(form: Form) -> Places
+    ensures { λ r. ⌜ r ≡ placesOf form ⌝ }
 {
-    let Coord::At(x) = coordinate(text, 1) else {
-        return Record::NotUnderstood;
-    };
-    let Coord::At(y) = coordinate(text, 2) else {
-        return Record::NotUnderstood;
-    };
-    let Visits::AtMost(allowance) = allowance(text, 3) else {
-        return Record::NotUnderstood;
-    };
-    Record::In { x, y, allowance }
+    match form {
+        Form::Pt => at(1, 2, 0, 0),
+        Form::Near => at(1, 2, 3, 4),
+        Form::In => at(1, 2, 0, 3),
+        Form::Meet => at(0, 0, 0, 1),
+        Form::Agree => at(0, 0, 1, 2),
+        Form::Other => at(0, 0, 0, 0),
+    }
 }
 
-fn meet(text: &[u8]) -> Record
-    ensures { λ r. ⌜ r ≡ meetIn (now (text .entry)) ⌝ }
+// A number from lo to hi in field k, or 0 where k is 0.
+fn number(text: &[u8], k: usize, lo: i64, hi: i64) -> Number
+    ensures { λ r. ⌜ numberRead r ≡ numberAt (fields (now (text .entry))) k (inRange lo hi) ⌝ }
 {
-    let Visits::AtMost(allowance) = allowance(text, 1) else {
-        return Record::NotUnderstood;
-    };
-    Record::Meet(allowance)
+    if k == 0 {
+        return Number::Whole(0);
+    }
+    within(field(text, k), lo, hi)
 }
 
-fn agree(text: &[u8]) -> Record
-    ensures { λ r. ⌜ r ≡ agreeIn (now (text .entry)) ⌝ }
+fn coordinate(text: &[u8], k: usize) -> Coord
+    ensures { λ r. ⌜ coordRead r ≡ coordinateAt (fields (now (text .entry))) k ⌝ }
 {
-    let Coord::At(distance) = coordinate(text, 1) else {
-        return Record::NotUnderstood;
+    let Number::Whole(z) = number(text, k, -2147483648, 2147483647) else {
+        return Coord::Nothing;
     };
-    let Visits::AtMost(allowance) = allowance(text, 2) else {
-        return Record::NotUnderstood;
+    Coord::At(z as i32)
+}
+
+fn allowance(text: &[u8], k: usize) -> Visits
+    ensures { λ r. ⌜ visitsRead r ≡ allowanceAt (fields (now (text .entry))) k ⌝ }
+{
+    let Number::Whole(z) = number(text, k, 0, 4294967295) else {
+        return Visits::Nothing;
     };
-    Record::Agree {
+    Visits::AtMost(z as u32)
+}
+
+fn numbers_at(text: &[u8], places: Places) -> Numbers
+    ensures { λ r. ⌜ r ≡ numbersAt (fields (now (text .entry))) places ⌝ }
+{
+    let Coord::At(x) = coordinate(text, places.x) else {
+        return Numbers::Nothing;
+    };
+    let Coord::At(y) = coordinate(text, places.y) else {
+        return Numbers::Nothing;
+    };
+    let Coord::At(distance) = coordinate(text, places.distance) else {
+        return Numbers::Nothing;
+    };
+    let Visits::AtMost(allowance) = allowance(text, places.allowance) else {
+        return Numbers::Nothing;
+    };
+    Numbers::All {
+        x,
+        y,
         distance,
         allowance,
     }
 }
 
-// Whether there are as many fields as wanted, and the first is the word.
-fn is(count: usize, first: &[u8], word: &[u8], wanted: usize) -> bool
-    ensures { λ r. ⌜ r ≡ (eqb count wanted && sameBytes (now (first .entry)) (now (word .entry))) ⌝ }
+fn made_of(numbers: Numbers, form: Form) -> Record
+    ensures { λ r. ⌜ r ≡ madeOf numbers form ⌝ }
 {
-    if count != wanted {
-        return false;
+    let Numbers::All {
+        x,
+        y,
+        distance,
+        allowance,
+    } = numbers
+    else {
+        return Record::NotUnderstood;
+    };
+    match form {
+        Form::Pt => Record::Pt(x, y),
+        Form::Near => Record::Near {
+            x,
+            y,
+            distance,
+            allowance,
+        },
+        Form::In => Record::In { x, y, allowance },
+        Form::Meet => Record::Meet(allowance),
+        Form::Agree => Record::Agree {
+            distance,
+            allowance,
+        },
+        Form::Other => Record::NotUnderstood,
     }
-    same_bytes(first, word)
 }
 
 pub fn record_of(text: &[u8]) -> Record
@@ -237,20 +298,6 @@ pub fn record_of(text: &[u8]) -> Record
     if is(count, first, b"LINE", 2) {
         return line_named(field(text, 1));
     }
-    if is(count, first, b"PT", 3) {
-        return pt(text);
-    }
-    if is(count, first, b"NEAR", 5) {
-        return near(text);
-    }
-    if is(count, first, b"IN", 4) {
-        return inside(text);
-    }
-    if is(count, first, b"MEET", 2) {
-        return meet(text);
-    }
-    if is(count, first, b"AGREE", 3) {
-        return agree(text);
-    }
-    Record::NotUnderstood
+    let form = form_of(count, first);
+    made_of(numbers_at(text, places_of(form)), form)
 }

@@ -10,26 +10,26 @@ use lib.IntN.{ℤ}
 use mir.Syntax.{w64}
 use mir.Val.{toZ, ofZ}
 use mir.Facts.{toZ-ofZ}
-use Rattle.whole.specs.Order.{T-true}
-use Rattle.whole.specs.Range.{Abs≤}
-use Rattle.rules.specs.declared.Agreement.the-variants.{Refused}
+use Rattle.integers.specs.Order.{T-true}
+use Rattle.integers.specs.Range.{Abs≤}
 use Rattle.rules.specs.declared.Line.the-variants.{LineA, LineB}
 use Rattle.rules.specs.declared.Refusal.{Refusal}
 use Rattle.rules.specs.declared.Tally.{Tally}
 use Rattle.rules.specs.Sheet.{pointsOf, farthest, distanceFits}
-use Rattle.rules.specs.Reply.{Reply, firstRefusal, orRefused, agreementReply}
+use Rattle.rules.specs.declared.Reply.{Reply}
+use Rattle.rules.specs.Reply.{firstRefusal, orRefused, refuses}
 use Rattle.rules.specs.Rows.{lengthChecks}
 use Rattle.rules.specs.Walk.{fresh}
 use Rattle.rules.specs.Questions.{Asked, askAll, onAllNear, agreed, agreeWalk, agreeReply}
 use Rattle.visits.proofs.Checks.{orElse}
 use Rattle.line.specs.declared.Checked.the-variants.{Fine}
-use Rattle.line.specs.Fine.{LengthsFine}
-use Rattle.line.specs.Said.{checkedRefusal}
+use Rattle.visits.specs.Fine.{LengthsFine}
+use Rattle.line.specs.Checked.{checkedRefusal}
 use Rattle.line.proofs.Lengths.{lengths-fine}
 use Rattle.line.proofs.Stored.{stored-abs}
-use Rattle.ends.specs.Came.{endIn}
+use Rattle.ending.specs.Ending.{endIn}
 use Rattle.reach.proofs.Sizes.{distance-abs}
-use Rattle.agree_walk.specs.Said.{asked}
+use Rattle.agree_walk.specs.Asking.{asked}
 use Rattle.agree_walk.proofs.Points.{is-near, stops}
 use Rattle.agree.proofs.Replies.{walksReply, distanceRefusal, agree-checked}
 use borrow.Author.Needs.{needs}
@@ -101,47 +101,27 @@ decided : (s : tie.Start) {o p : Option Refusal} {d : Bool}
     ≡ reply s
 decided s = agree-checked (pointsA s) (tableA s) (pointsB s) (tableB s) (s .args .distance) (s .args .allowance)
 
-check-lengths-requires : tie.Need-check-lengths-requires
-check-lengths-requires c κs = search needs
-
-enum-known-checked-a : tie.Need-enum-known-checked-a
-enum-known-checked-a c = search needs
-
 returns : tie.Need-returns
 returns c =
-    let k = c .before .before .before in
-    decided (k .before) (sym (said-a k) ∙ ap checkedRefusal (c .before .checked-a .given .1)) refl refl
-
-enum-told : tie.Need-enum-told
-enum-told c = search needs
-
-check-lengths-requires-2 : tie.Need-check-lengths-requires-2
-check-lengths-requires-2 c κs = search needs
-
-enum-known-checked-b : tie.Need-enum-known-checked-b
-enum-known-checked-b c = search needs
+    let t = c .before .before in
+    let k = t .before .before in
+    c .refuses .ensures
+    ∙ decided (k .before) (sym (said-a k) ∙ ap checkedRefusal (t .checked-a .given .1)) refl refl
 
 returns-2 : tie.Need-returns-2
 returns-2 c =
-    let k = c .before .before .before in
-    let e = sym (said-b k) ∙ ap checkedRefusal (c .before .checked-b .given .1) in
-    decided (startA (k .before)) (fine-a (k .before)) e refl
-
-enum-told-2 : tie.Need-enum-told-2
-enum-told-2 c = search needs
-
-distance-fits-requires : tie.Need-distance-fits-requires
-distance-fits-requires c κs = search needs
-
-early-requires : tie.Need-early-requires
-early-requires c κs = search needs
+    let t = c .before .before in
+    let k = t .before .before in
+    let e = sym (said-b k) ∙ ap checkedRefusal (t .checked-b .given .1) in
+    c .refuses2 .ensures ∙ decided (startA (k .before)) (fine-a (k .before)) e refl
 
 returns-3 : tie.Need-returns-3
 returns-3 c =
-    let t = c .before in
+    let t = c .before .before in
     let k = t .before .before in
     let e = sym (distance-said (t .before)) ∙ not-true _ (t .if1 .taken) in
-    ap (λ (r : Refusal). agreementReply (Refused r)) (c .early .ensures)
+    c .refuses3 .ensures
+    ∙ ap refuses (c .before .early .ensures)
     ∙ decided (startB k) (fine-a (k .before .before .before)) (fine-b k) e
 
 -- the distance passed
@@ -165,7 +145,8 @@ ends-on-sheet-requires c κs = lengths c .1 .some-points
 
 -- A's points against B, and B's against A, at a distance
 abbrev first : tie.Start → ℤ → Asked
-first s d = askAll LineA (pointsA s) LineB (pointsB s) (tableB s) d 0 (pointsOf (pointsA s)) (fresh (s .args .allowance))
+first s d =
+    askAll LineA (pointsA s) LineB (pointsB s) (tableB s) d 0 (pointsOf (pointsA s)) (fresh (s .args .allowance))
 
 abbrev second : tie.Start → ℤ → Tally → Asked
 second s d v = askAll LineB (pointsB s) LineA (pointsA s) (tableA s) d 0 (pointsOf (pointsB s)) v
@@ -184,14 +165,12 @@ after-first s e = ap (λ (x : Asked). onAllNear x (second s (s .args .distance))
 answered : (c : tie.Else1) {x : Asked} → x ≡ whole (start c) → agreed (start c .args .allowance) x ≡ reply (start c)
 answered c e =
     let k = c .before .before in
-    ap (agreed (start c .args .allowance)) e ∙ decided (start c) (fine-a (k .before .before .before)) (fine-b k) (fits c)
+    ap (agreed (start c .args .allowance)) e
+    ∙ decided (start c) (fine-a (k .before .before .before)) (fine-b k) (fits c)
 
 -- ---------------- B begins or ends off the sheet
 bad-start-requires : tie.Need-bad-start-requires
 bad-start-requires c κs = omega (arith, lengths (c .before .before) .0 .some-points)
-
-agreement-requires : tie.Need-agreement-requires
-agreement-requires c κs = search needs
 
 returns-4 : tie.Need-returns-4
 returns-4 c =
@@ -203,7 +182,7 @@ returns-4 c =
     let off = sym (w .before .before .ends-on-sheet .ensures) ∙ not-true _ (w .before .if2 .taken) in
     c .agreement .ensures
     ∙ answered k
-    (stops LineA LineB (r .at) (a .allowance) (r .came) _ (λ q. omega (arith, w .bad-start .ensures .1, q))
+    (stops LineA LineB (r .at) (a .allowance) (r .ending) _ (λ q. omega (arith, w .bad-start .ensures .1, q))
     ∙ after-first s (w .bad-start .ensures .0 (pointsB s) (tableB s) (a .distance) (lengths k .1) off LineA LineB))
 
 -- ---------------- A's points
@@ -213,24 +192,19 @@ ask-all-requires c κs =
     let k = e .before .before in
     (lengths k .1, T-true (sym (e .before .ends-on-sheet .ensures) ∙ not-false _ (e .if2 .left)), distance-small k)
 
-end-in-requires : tie.Need-end-in-requires
-end-in-requires c κs = search needs
-
 -- where they were about to be asked
 abbrev passed : tie.After-ask-all → tie.Else1
 passed c = c .before .before .before .before .before
 
 first-asked : (c : tie.After-ask-all)
-    → onAllNear (asked LineA LineB (c .ask-all .result .at) (start (passed c) .args .allowance) (c .ask-all .result .came))
+    → onAllNear
+    (asked LineA LineB (c .ask-all .result .at) (start (passed c) .args .allowance) (c .ask-all .result .ending))
     (second (start (passed c)) (start (passed c) .args .distance))
     ≡ whole (start (passed c))
 first-asked c =
     let s = start (passed c) in
     let d = toZ-ofZ {w = w64} (s .fits .distance) in
     after-first s (c .ask-all .ensures LineA LineB ∙ ap (first s) d)
-
-agreement-requires-2 : tie.Need-agreement-requires-2
-agreement-requires-2 c κs = search needs
 
 returns-5 : tie.Need-returns-5
 returns-5 c =
@@ -240,10 +214,8 @@ returns-5 c =
     let e = c .before .before .end-in .ensures in
     c .agreement2 .ensures
     ∙ answered k
-    (stops LineA LineB (r .at) (start k .args .allowance) (r .came) _ (λ q. c .before .if3 .taken (e ∙ q)) ∙ first-asked w)
-
-tally-in-requires : tie.Need-tally-in-requires
-tally-in-requires c κs = search needs
+    (stops LineA LineB (r .at) (start k .args .allowance) (r .ending) _ (λ q. c .before .if3 .taken (e ∙ q))
+    ∙ first-asked w)
 
 -- ---------------- A's points are near B: what B's come to is the whole
 abbrev asked-a : tie.After-tally-in → tie.After-ask-all
@@ -256,18 +228,18 @@ after-both : (c : tie.After-tally-in) (i r : ℕ)
     → asked LineB LineA i (c .tally-in .result .allowance) r
     ≡ second (begin c) (begin c .args .distance) (c .tally-in .result)
     → asked LineB LineA i (begin c .args .allowance) r ≡ whole (begin c)
-after-both c i came q =
+after-both c i ending q =
     let w = asked-a c in
     let s = begin c in
     let a = s .args in
     let r = w .ask-all .result in
     let e = c .before .before .end-in .ensures in
-    let near : endIn (r .came) ≡ 2 = omega (arith, e, c .before .if3 .left) in
-    ap (λ (y : Tally). asked LineB LineA i (y .allowance) came) (sym (c .tally-in .ensures))
+    let near : endIn (r .ending) ≡ 2 = omega (arith, e, c .before .if3 .left) in
+    ap (λ (y : Tally). asked LineB LineA i (y .allowance) ending) (sym (c .tally-in .ensures))
     ∙ q
     ∙ ap (second s (a .distance)) (c .tally-in .ensures)
     ∙ sym (ap (λ (x : Asked). onAllNear x (second s (a .distance)))
-    (is-near LineA LineB (r .at) (a .allowance) (r .came) near))
+    (is-near LineA LineB (r .at) (a .allowance) (r .ending) near))
     ∙ first-asked w
 
 ends-on-sheet-requires-2 : tie.Need-ends-on-sheet-requires-2
@@ -275,9 +247,6 @@ ends-on-sheet-requires-2 c κs = lengths (passed (asked-a c)) .0 .some-points
 
 bad-start-requires-2 : tie.Need-bad-start-requires-2
 bad-start-requires-2 c κs = omega (arith, lengths (passed (asked-a (c .before .before))) .1 .some-points)
-
-agreement-requires-3 : tie.Need-agreement-requires-3
-agreement-requires-3 c κs = search needs
 
 returns-6 : tie.Need-returns-6
 returns-6 c =
@@ -289,7 +258,7 @@ returns-6 c =
     let off = sym (w .before .before .ends-on-sheet2 .ensures) ∙ not-true _ (w .before .if4 .taken) in
     c .agreement3 .ensures
     ∙ answered k
-    (after-both o (b .result .at) (b .result .came)
+    (after-both o (b .result .at) (b .result .ending)
     (b .ensures .0 (pointsA s) (tableA s) (s .args .distance) (lengths k .0) off LineB LineA))
 
 ask-all-requires-2 : tie.Need-ask-all-requires-2
@@ -297,9 +266,6 @@ ask-all-requires-2 c κs =
     let e = c .before .before in
     let k = passed (asked-a (e .before .before)) in
     (lengths k .0, T-true (sym (e .before .ends-on-sheet2 .ensures) ∙ not-false _ (e .if4 .left)), distance-small k)
-
-agreement-requires-4 : tie.Need-agreement-requires-4
-agreement-requires-4 c κs = search needs
 
 returns-7 : tie.Need-returns-7
 returns-7 c =
@@ -310,37 +276,14 @@ returns-7 c =
     let b = c .before .ask-all2 in
     c .agreement4 .ensures
     ∙ answered k
-    (after-both o (b .result .at) (b .result .came)
+    (after-both o (b .result .at) (b .result .ending)
     (b .ensures LineB LineA ∙ (λ i. second s (d i) (o .tally-in .result))))
 
 pub agree-spec : {M : Type 1} → statement M
 agree-spec =
-    tie.close
-    (tie.spec
-    check-lengths-requires
-    enum-known-checked-a
-    returns
-    enum-told
-    check-lengths-requires-2
-    enum-known-checked-b
-    returns-2
-    enum-told-2
-    distance-fits-requires
-    early-requires
-    returns-3
-    ends-on-sheet-requires
-    bad-start-requires
-    agreement-requires
-    returns-4
-    ask-all-requires
-    end-in-requires
-    agreement-requires-2
-    returns-5
-    tally-in-requires
-    ends-on-sheet-requires-2
-    bad-start-requires-2
-    agreement-requires-3
-    returns-6
-    ask-all-requires-2
-    agreement-requires-4
-    returns-7)
+    tie.close (tie.spec
+    (search needs) (search needs) (search needs) returns (search needs) (search needs) (search needs)
+    (search needs) returns-2 (search needs) (search needs) (search needs) (search needs) returns-3
+    ends-on-sheet-requires bad-start-requires (search needs) returns-4 ask-all-requires (search needs)
+    (search needs) returns-5 (search needs) ends-on-sheet-requires-2 bad-start-requires-2 (search needs) returns-6
+    ask-all-requires-2 (search needs) returns-7)

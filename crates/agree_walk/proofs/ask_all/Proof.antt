@@ -10,23 +10,23 @@ use Rattle.rules.specs.declared.Tally.{Tally}
 use Rattle.rules.specs.Sheet.{pointsOf}
 use Rattle.rules.specs.Questions.{Asked, askAll, onAllNear}
 use Rattle.line.proofs.Stored.{stored, stored-abs}
-use Rattle.ends.specs.Came.{visitsIn, endIn, tallyIn}
-use Rattle.ends.proofs.Ends.{visits-in, end-in}
-use Rattle.agree_walk.specs.Said.{asked}
+use Rattle.ending.specs.Ending.{visitsIn, endIn, tallyIn}
+use Rattle.ending.proofs.Ends.{visits-in, end-in}
+use Rattle.agree_walk.specs.Asking.{asked}
 use Rattle.agree_walk.proofs.Points.{is-near, stops, next-point, no-point}
 use borrow.Author.Needs.{needs}
 use Rattle.agree_walk.proofs.ask_all.Statement.{statement}
 use Rattle.agree_walk.proofs.ask_all.Tie as tie
 
 abbrev Inv-loop : tie.InvT-loop
-Inv-loop points theirs table d tally count came₀ i₀ came i =
-    (i ≤ count) × (endIn came ≡ 2)
+Inv-loop points theirs table d tally count ending₀ i₀ ending i =
+    (i ≤ count) × (endIn ending ≡ 2)
     × ((line other : Line)
-    → askAll line points other (theirs .now) (table .now) (toZ w64 d) i (count - i) (tallyIn (tally .allowance) came)
+    → askAll line points other (theirs .now) (table .now) (toZ w64 d) i (count - i) (tallyIn (tally .allowance) ending)
     ≡ askAll line points other (theirs .now) (table .now) (toZ w64 d) 0 count tally)
 
 abbrev μ-loop : tie.MeasureT-loop
-μ-loop points theirs table d tally count came₀ i₀ came i = count - i
+μ-loop points theirs table d tally count ending₀ i₀ ending i = count - i
 
 -- points of the line against the other at a distance, as many from i on; and with the distance as it is read back
 abbrev asksAt : tie.Start Inv-loop μ-loop → Line → Line → ℤ → ℕ → ℕ → Tally → Asked
@@ -68,34 +68,26 @@ after-point c line other =
     ∙ c .ask-point .ensures line other
     ∙ (λ j. asks s line other i 1 (y j)))
     ∙ sym (next-point line (a .points .now) other (a .theirs .now .now) (a .table .now .now) (toZ w64 (ofZ w64 (a .d)))
-    (count s) i (tallyIn (a .tally .allowance) (l .came)) (c .before .before .loop-test .taken))
+    (count s) i (tallyIn (a .tally .allowance) (l .ending)) (c .before .before .loop-test .taken))
     ∙ l .inv .2 line other
-
-came-requires : tie.Need-came-requires Inv-loop μ-loop
-came-requires c κs = search needs
 
 loop-holds : tie.Need-loop-holds Inv-loop μ-loop
 loop-holds c =
     let s = c .before in
     let v = s .args .tally .visits in
-    let e = c .came .ensures in
+    let e = c .pack .ensures in
     let made = ap visitsIn e ∙ visits-in v 2 (omega arith) in
     let all : count s - 0 ≡ count s = omega arith in (
       omega arith,
       ap endIn e ∙ end-in v 2 (omega arith),
-      λ line other. (λ j. asks s line other 0 (all j) (record { allowance = s .args .tally .allowance; visits = made j })),
+      λ line other. (λ j. asks s line other 0 (all j)
+          (record { allowance = s .args .tally .allowance; visits = made j })),
     )
-
-tally-in-requires : tie.Need-tally-in-requires Inv-loop μ-loop
-tally-in-requires c κs = search needs
 
 ask-point-requires : tie.Need-ask-point-requires Inv-loop μ-loop
 ask-point-requires c κs =
     let p = c .before .before .before .before .pre in
     (omega (arith, c .before .loop-test .taken), (p .0, p .1, stored-abs (p .2) tt))
-
-end-in-requires : tie.Need-end-in-requires Inv-loop μ-loop
-end-in-requires c κs = search needs
 
 returns : tie.Need-returns Inv-loop μ-loop
 returns c line other =
@@ -104,12 +96,6 @@ returns c line other =
     stops line other (at p) (start p .args .tally .allowance) (p .ask-point .result) _ (λ q. c .if1 .taken (e ∙ q))
     ∙ after-point p line other
     ∙ all-asked (start p) line other
-
-add-i : tie.Need-add-i Inv-loop μ-loop
-add-i c = search needs
-
-loop-less : tie.Need-loop-less Inv-loop μ-loop
-loop-less c = search needs
 
 loop-again : tie.Need-loop-again Inv-loop μ-loop
 loop-again c =
@@ -131,7 +117,7 @@ returns-2 c line other =
     let s = c .before .before .before in
     let a = s .args in
     let i = c .before .loop .i in
-    let r = c .before .loop .came in
+    let r = c .before .loop .ending in
     let e : count s - i ≡ 0 = omega (arith, c .loop-test .left) in
     is-near line other i (a .tally .allowance) r (c .before .loop .inv .1)
     ∙ no-point line (a .points .now) other (a .theirs .now .now) (a .table .now .now) (toZ w64 (ofZ w64 (a .d)))
@@ -141,17 +127,6 @@ returns-2 c line other =
 
 pub ask-all-spec : {M : Type 1} → statement M
 ask-all-spec =
-    tie.close
-    (tie.spec
-    Inv-loop
-    μ-loop
-    came-requires
-    loop-holds
-    tally-in-requires
-    ask-point-requires
-    end-in-requires
-    returns
-    add-i
-    loop-less
-    loop-again
-    returns-2)
+    tie.close (tie.spec
+    Inv-loop μ-loop (search needs) loop-holds (search needs) ask-point-requires (search needs) returns
+    (search needs) (search needs) loop-again returns-2)

@@ -5,15 +5,15 @@ use Prim.Native.Nat.{_<_}
 use native.Mathlib.Omega.{arith}
 use borrow.Author.Tests.{not-true, not-false}
 use lib.IntN.{ℤ}
-use Rattle.whole.specs.Order.{T-true}
+use Rattle.integers.specs.Order.{T-true}
 use Rattle.rules.specs.declared.Line.{Line}
 use Rattle.rules.specs.declared.Point.{Point}
 use Rattle.rules.specs.Sheet.{point, onSheet}
 use Rattle.rules.specs.Questions.{nearWalk}
-use Rattle.visits.proofs.OnSheets.{on-sheet}
+use Rattle.limits.proofs.OnSheets.{on-sheet}
 use Rattle.line.proofs.Stored.{stored, stored-abs}
-use Rattle.ends.specs.Came.{endIn, badSecond, cameTo}
-use Rattle.agree_walk.specs.Said.{asked}
+use Rattle.ending.specs.Ending.{endIn, badSecond, walkedIn}
+use Rattle.agree_walk.specs.Asking.{asked}
 use Rattle.agree_walk.proofs.Points.{reads-off, heard, one-line, one-point}
 use borrow.Author.Needs.{needs}
 use Rattle.agree_walk.proofs.ask_point.Statement.{statement}
@@ -36,21 +36,12 @@ z s = point (ps s) (s .args .i)
 said : (c : tie.After-on-sheet) → c .on-sheet .result ≡ onSheet (z (c .before .before))
 said c = c .on-sheet .ensures ∙ ap (λ (p : Point). onSheet p) (c .before .point-at .ensures)
 
-point-at-requires : tie.Need-point-at-requires
-point-at-requires c κs = search needs
-
-on-sheet-requires : tie.Need-on-sheet-requires
-on-sheet-requires c κs = search needs
-
-came-requires : tie.Need-came-requires
-came-requires c κs = search needs
-
 returns : tie.Need-returns
 returns c line other =
     let s = c .before .before .before .before in
     let a = s .args in
     let off = sym (said (c .before .before)) ∙ not-true _ (c .before .if1 .taken) in
-    ap (asked line other (a .i) (a .tally .allowance)) (c .came .ensures)
+    ap (asked line other (a .i) (a .tally .allowance)) (c .pack .ensures)
     ∙ reads-off line other (a .i) (a .tally .allowance) (a .tally .visits)
     ∙ one-point line (ps s) other (theirs s) (table s) (a .d) (a .i) (a .tally) off
 
@@ -65,7 +56,7 @@ start c = c .before .before .before .before
 
 -- what the walk of the point comes to, whatever a second line is called
 walked : (c : tie.After-ask) (l m : Line)
-    → cameTo tt tt l m (start c .args .tally .allowance) (c .ask .result)
+    → walkedIn tt tt l m (start c .args .tally .allowance) (c .ask .result)
     ≡ nearWalk l (theirs (start c)) (table (start c)) (z (start c)) (start c .args .d) (start c .args .tally)
 walked c l m =
     let s = start c in
@@ -84,5 +75,4 @@ returns-2 c line other =
     ∙ one-point line (ps s) other (theirs s) (table s) (a .d) (a .i) (a .tally) on
 
 pub ask-point-spec : {M : Type 1} → statement M
-ask-point-spec =
-    tie.close (tie.spec point-at-requires on-sheet-requires came-requires returns ask-requires returns-2)
+ask-point-spec = tie.close (tie.spec (search needs) (search needs) (search needs) returns ask-requires returns-2)

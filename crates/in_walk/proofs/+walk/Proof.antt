@@ -1,58 +1,62 @@
 -- `walk` takes one level of the written walk. The number of segments in the range falls. A split off the sheet is
 -- refused in place of the left half, whose row it makes bad.
 use mathlib.Core.Path.{_≡_, refl, sym, _∙_, ap, subst}
-use mathlib.Core.Bool.{Bool, true, false, not, Bool·beq}
-use Prim.Native.Nat.{ℕ, pred, _+_, _-_, _<_, _≤_}
+use mathlib.Core.Bool.{Bool, true, false, cond, not, Bool·beq}
+use mathlib.Core.List.{List}
+use Prim.Native.Nat.{ℕ, pred, _-_, _<_, _+_, _≤_}
 use native.Mathlib.Omega.{arith}
-use borrow.Author.Tests.{leb-false, not-true, not-false}
-use lib.Dec.{T, leb}
-use Rattle.whole.specs.Order.{T-true}
+use borrow.Author.Tests.{not-true, not-false}
+use lib.Dec.{T}
+use lib.IntN.{ℤ}
+use Rattle.integers.specs.Order.{T-true}
 use Rattle.rules.specs.declared.Line.the-variants.{LineA}
 use Rattle.rules.specs.declared.Node.{Node}
 use Rattle.rules.specs.declared.Point.{Point}
 use Rattle.rules.specs.declared.Tally.{Tally}
 use Rattle.rules.specs.declared.Next.the-variants.{Left, Spent}
 use Rattle.rules.specs.Sheet.{point, onSheet}
-use Rattle.rules.specs.Walk.{next, Visit, Walked, ended, over, goOn}
-use Rattle.rules.specs.Walk.{walk as writtenWalk}
+use Rattle.rules.specs.Walk.{next, Visit, halve, walk as writtenWalk}
 use Rattle.rules.specs.Questions.{leftOf, rightOf, count, inVisit}
-use Rattle.visits.proofs.Levels.{none-left, visited, halved}
-use Rattle.ends.specs.Came.{endIn, ENDED, badRow, tallyIn, due, cameTo}
-use Rattle.ends.proofs.Ends.{keeps, reads-over, reads-ended, reads-spent, reads-bad, stops, is-over}
-use Rattle.row.proofs.Parts.{end-off}
-use Rattle.row.proofs.Places.{row-small, split-small, left-stands, right-stands, left-ends, right-ends}
-use Rattle.ends.proofs.Dues.{due-stops, reads-bad-due}
-use Rattle.in_walk.specs.declared.Step.{Step}
-use Rattle.in_walk.specs.declared.Step.the-variants.{Bad, Finish, Halve}
-use Rattle.in_walk.specs.Said.{stepVisit, SplitsInside}
-use Rattle.in_walk.proofs.Visits.{visit-bad}
 use Rattle.line.proofs.Stored.{readBack, point-stored, stored-on}
+use Rattle.ending.proofs.OneLevel.{Level, says, below, none-left, yes-here, over-here, bad-here}
+use Rattle.ending.proofs.OneLevel.{left-stops, bad-left, right-goes}
+use Rattle.row.specs.Stands.{Stands, nodeAt}
+use Rattle.row.proofs.Parts.{end-off}
+use Rattle.row.proofs.Places.{row-small, left-stands, right-stands, left-ends, right-ends}
+use Rattle.in_visit.specs.declared.Step.{Step}
+use Rattle.in_visit.specs.declared.Step.the-variants.{Bad, Finish}
+use Rattle.in_visit.specs.Steps.{stepVisit, SplitsInside}
+use Rattle.in_visit.proofs.Visits.{row-bad}
 use borrow.Fn.Kinds.{In}
 use borrow.Fn.PlainCycle.{Measures, is, falls, and}
 use borrow.Author.Needs.{needs}
 use Rattle.in_walk.proofs.walk.Reads as walk
 use Rattle.in_walk.proofs.walk.Kinds as walk-kinds
 use Rattle.in_walk.proofs.+walk.Lts-walk as walk-lts
-use Rattle.in_walk.proofs.visit.Reads as visit-reads
-use Rattle.line.proofs.on_sheet.Reads as on-sheet-reads
-use Rattle.line.proofs.point_at.Reads as point-at-reads
-use Rattle.ends.proofs.bad_row.Reads as bad-row-reads
-use Rattle.ends.proofs.bad_row_due.Reads as bad-row-due-reads
-use Rattle.ends.proofs.came.Reads as came-reads
-use Rattle.ends.proofs.odd_in.Reads as odd-in-reads
-use Rattle.ends.proofs.over.Reads as over-reads
-use Rattle.ends.proofs.stopped.Reads as stopped-reads
-use Rattle.ends.proofs.tally_in.Reads as tally-in-reads
+use Rattle.in_visit.proofs.visit.Reads as visit-reads
+use Rattle.line.proofs.on_sheet_at.Reads as on-sheet-at-reads
+use Rattle.ending.proofs.bad_row.Reads as bad-row-reads
+use Rattle.ending.proofs.bad_row_due.Reads as bad-row-due-reads
+use Rattle.ending.proofs.pack.Reads as pack-reads
+use Rattle.ending.proofs.odd_in.Reads as odd-in-reads
+use Rattle.ending.proofs.over.Reads as over-reads
+use Rattle.ending.proofs.stopped.Reads as stopped-reads
+use Rattle.ending.proofs.tally_in.Reads as tally-in-reads
 use Rattle.rules.proofs.Tally.visit.Reads as Tally-visit-reads
 use Rattle.in_walk.proofs.+walk.{statement}
 use Rattle.in_walk.proofs.+walk.Tie.{close}
 
 -- the count after a visit that crosses, or not
-one-more : (odd crossed : Bool) → not (Bool·beq odd crossed) ≡ count crossed odd
+one-more : (odd crossed : Bool) → cond (not (Bool·beq odd crossed)) true false ≡ count crossed odd
 one-more true true = refl
 one-more true false = refl
 one-more false true = refl
 one-more false false = refl
+
+-- a count that is told as odd or not
+as-told : (odd : Bool) → odd ≡ cond odd true false
+as-told true = refl
+as-told false = refl
 
 abbrev μ-walk : Measures 4 walk-kinds.ps ℕ
 μ-walk κs a = a .1 .1 .1 .1 .0 - a .1 .1 .1 .0
@@ -68,18 +72,16 @@ abbrev claims : ℕ → walk-lts.Claims
 claims t = (
   Tally-visit-reads.Asked,
   Tally-visit-reads.Learnt,
-  came-reads.Asked,
-  came-reads.Learnt,
+  pack-reads.Asked,
+  pack-reads.Learnt,
   visit-reads.Asked,
   visit-reads.Learnt,
   bad-row-reads.Asked,
   bad-row-reads.Learnt,
   over-reads.Asked,
   over-reads.Learnt,
-  point-at-reads.Asked,
-  point-at-reads.Learnt,
-  on-sheet-reads.Asked,
-  on-sheet-reads.Learnt,
+  on-sheet-at-reads.Asked,
+  on-sheet-at-reads.Learnt,
   bad-row-due-reads.Asked,
   bad-row-due-reads.Learnt,
   walk-below t,
@@ -93,8 +95,8 @@ claims t = (
 )
 
 module _ (t : ℕ) where
-  -- the places of the code: at its start, once a visit is left, once it is made, at a split, once its point is
-  -- looked at, and once the left half is walked
+  -- ---------------- the places of the code: at its start, once a visit is left, once it is made, at a split, once its
+  -- point is looked at, and once the left half is walked
   abbrev Start : Type 0
   Start = walk-lts.Start (claims t) (walk-at t) walk.Post
 
@@ -104,351 +106,239 @@ module _ (t : ℕ) where
   abbrev Seen : Type 0
   Seen = walk-lts.After-visit2 (claims t) (walk-at t) walk.Post
 
-  abbrev Split : Type 0
-  Split = walk-lts.After-known-told3 (claims t) (walk-at t) walk.Post
+  abbrev Opened : Type 0
+  Opened = walk-lts.After-known-told3 (claims t) (walk-at t) walk.Post
 
   abbrev Looked : Type 0
-  Looked = walk-lts.After-on-sheet (claims t) (walk-at t) walk.Post
+  Looked = walk-lts.After-on-sheet-at (claims t) (walk-at t) walk.Post
 
   abbrev LeftWalked : Type 0
   LeftWalked = walk-lts.After-walk (claims t) (walk-at t) walk.Post
 
-  abbrev from : Unspent → Start
-  from c = c .before .before .before .before
+  abbrev begun : Unspent → walk-lts.After-visit (claims t) (walk-at t) walk.Post
+  begun c = c .before .before .before
 
   abbrev unspent : Seen → Unspent
   unspent c = c .before .before .before
 
-  abbrev start : Seen → Start
-  start c = from (unspent c)
+  abbrev origin : Seen → Start
+  origin c = begun (unspent c) .before
 
-  abbrev seen : Split → Seen
+  abbrev seen : Opened → Seen
   seen c = c .before .before .before
 
-  abbrev opening : Split → Start
-  opening c = start (seen c)
+  abbrev start : Opened → Start
+  start c = origin (seen c)
 
-  abbrev split : Looked → Split
-  split c = c .before .before .before
+  abbrev opened : Looked → Opened
+  opened c = c .before .before
 
-  abbrev looking : LeftWalked → Looked
-  looking c = c .before .before
+  abbrev halved : LeftWalked → Opened
+  halved c = opened (c .before .before)
 
-  abbrev halving : LeftWalked → Split
-  halving c = split (looking c)
-
-  -- the node and the point that the numbers make, the count so far and the tally
+  -- ---------------- what it is asked, in the words of the definitions
   module _ (s : Start) where
+    abbrev points : List ℤ
+    points = s .args .points .now .now
+
+    abbrev table : List ℤ
+    table = s .args .table .now .now
+
     abbrev node : Node
-    node = record { row = s .args .row; first = s .args .first; last = s .args .last }
+    node = nodeAt (s .args .row) (s .args .first) (s .args .last)
 
     abbrev z : Point
     z = record { x = s .args .x; y = s .args .y }
 
-    abbrev odd : Bool
-    odd = s .args .odd
-
-    abbrev tally : Tally
-    tally = s .args .tally
-
-    -- what a visit of a node does, the written walk from the node, and what a number is read as
-    abbrev doesAt : Point → Node → Visit Bool Node
-    doesAt = inVisit (s .args .points .now .now) (s .args .table .now .now)
-
     abbrev does : Node → Visit Bool Node
-    does = doesAt z
+    does = inVisit points table z
 
-    abbrev walks : ℕ → Walked Bool
-    walks f = writtenWalk does f node odd tally
-
-    abbrev read : ℕ → Walked Bool
-    read = cameTo false true LineA LineA (s .args .tally .allowance)
-
-    -- the point's numbers are handed on as they are
-    same : readBack z ≡ z
+    -- the point is handed on as it is
+    abbrev same : readBack z ≡ z
     same = point-stored (s .pre .1 .2)
 
-    some-level : (f : ℕ) → s .args .last ≤ f + s .args .first → 0 < f
-    some-level f h = omega (arith, s .pre .1 .0 .some-segment)
+    abbrev level : (f : ℕ) → s .args .last ≤ f + s .args .first → Level Bool Node
+    level f enough = record {
+      even = false;
+      odd = true;
+      first = LineA;
+      second = LineA;
+      does = does;
+      node = node;
+      count = s .args .odd;
+      tally = s .args .tally;
+      levels = f;
+      some-level = omega (arith, s .pre .1 .0 .fits .some-segment);
+    }
 
-  visit-requires : walk-lts.Need-visit-requires (claims t) (walk-at t) walk.Post
-  visit-requires c κs = search needs
+  -- ---------------- a visit is made: the next tally, and what the visit does
+  abbrev counted : Seen → Tally
+  counted c = unspent c .before .counted .given .0 .0
 
-  enum-known-counted : walk-lts.Need-enum-known-counted (claims t) (walk-at t) walk.Post
-  enum-known-counted c = search needs
+  made : (c : Seen) → next (origin c .args .tally) ≡ Left (counted c)
+  made c = sym (begun (unspent c) .visit .ensures) ∙ unspent c .before .counted .given .1
 
-  enum-told : walk-lts.Need-enum-told (claims t) (walk-at t) walk.Post
-  enum-told c = search needs
-
-  came-requires : walk-lts.Need-came-requires (claims t) (walk-at t) walk.Post
-  came-requires c κs = search needs
-
-  returns : walk-lts.Need-returns (claims t) (walk-at t) walk.Post
-  returns c f h =
-      let k = c .before .before .before in
-      let s = k .before in
-      let told : k .visit .result ≡ Spent = cc in
-      ap (read s) (c .came .ensures)
-      ∙ reads-spent false true LineA LineA _ 0
-      ∙ none-left (does s) (node s) (odd s) (tally s) f (some-level s f h) (sym (k .visit .ensures) ∙ told)
-
-  -- the tally that the visit gave back
-  abbrev counted : Unspent → Tally
-  counted c = c .before .counted .given .0 .0
-
-  left-one : (c : Unspent) → next (tally (from c)) ≡ Left (counted c)
-  left-one c = sym (c .before .before .before .visit .ensures) ∙ c .before .counted .given .1
-
-  kept : (c : Unspent) → counted c .allowance ≡ tally (from c) .allowance
-  kept c = keeps (tally (from c)) (counted c) (left-one c)
-
-  did : (c : Seen) {v : Step} → c .visit2 .result ≡ v → stepVisit (node (start c)) v ≡ does (start c) (node (start c))
+  did : (c : Seen) {v : Step} → c .visit2 .result ≡ v
+      → stepVisit (node (origin c)) v ≡ does (origin c) (node (origin c))
   did c e =
-      let s = start c in ap (stepVisit (node s)) (sym e) ∙ c .visit2 .ensures .0 ∙ (λ d. doesAt s (same s d) (node s))
+      let s = origin c in
+      ap (stepVisit (node s)) (sym e)
+      ∙ c .visit2 .ensures .does
+      ∙ (λ d. inVisit (points s) (table s) (same s d) (node s))
 
-  visit-requires-2 : walk-lts.Need-visit-requires-2 (claims t) (walk-at t) walk.Post
-  visit-requires-2 c κs = let s = from (c .before .before) in (s .pre .1 .0, s .pre .1 .1, stored-on (s .pre .1 .2))
+  -- ---------------- the node is halved at an inner point, so both halves stand where it does
+  abbrev split : Opened → ℕ
+  split c = c .before .split .given .0 .0
 
-  enum-told-2 : walk-lts.Need-enum-told-2 (claims t) (walk-at t) walk.Post
-  enum-told-2 c = search needs
+  abbrev left : Opened → Node
+  left c = leftOf (node (start c)) (split c)
 
-  bad-row-requires : walk-lts.Need-bad-row-requires (claims t) (walk-at t) walk.Post
-  bad-row-requires c κs = row-small (start (c .before .before) .pre .1 .0)
+  abbrev right : Opened → Node
+  right c = rightOf (node (start c)) (split c)
 
-  enum-told-3 : walk-lts.Need-enum-told-3 (claims t) (walk-at t) walk.Post
-  enum-told-3 c = search needs
+  halves : (c : Opened) → halve (left c) (right c) ≡ does (start c) (node (start c))
+  halves c = did (seen c) (c .before .split .given .1)
 
-  came-requires-2 : walk-lts.Need-came-requires-2 (claims t) (walk-at t) walk.Post
-  came-requires-2 c κs = search needs
+  inside : (c : Opened) → (start c .args .first < split c) × (split c < start c .args .last)
+  inside c =
+      let a = start c .args in
+      subst (SplitsInside (a .first) (a .last)) (c .before .split .given .1) (seen c .visit2 .ensures .inside)
 
-  enum-known-crossed : walk-lts.Need-enum-known-crossed (claims t) (walk-at t) walk.Post
-  enum-known-crossed c = search needs
+  left-in : (c : Opened) → Stands (points (start c)) (table (start c)) (left c)
+  left-in c = let i = inside c in left-stands (start c .pre .1 .0) (i .0) (i .1)
 
-  over-requires : walk-lts.Need-over-requires (claims t) (walk-at t) walk.Post
-  over-requires c κs = search needs
+  right-in : (c : Opened) → Stands (points (start c)) (table (start c)) (right c)
+  right-in c = let i = inside c in right-stands (start c .pre .1 .0) (i .0) (i .1)
 
-  enum-known-mid : walk-lts.Need-enum-known-mid (claims t) (walk-at t) walk.Post
-  enum-known-mid c = search needs
+  split-on : (c : walk-lts.Else1 (claims t) (walk-at t) walk.Post)
+      → T (onSheet (point (points (start (opened (c .before)))) (split (opened (c .before)))))
+  split-on c = T-true (sym (c .before .on-sheet-at .ensures) ∙ not-false _ (c .if1 .left))
 
-  -- a node is halved at an inner point, so both halves stand where the node does, and have fewer segments
-  abbrev mid : Split → ℕ
-  mid c = c .before .mid .given .0 .0
+  -- what the left half comes to
+  left-comes : (c : LeftWalked) (f : ℕ)
+      → (enough : start (halved c) .args .last ≤ f + start (halved c) .args .first)
+      → let s = start (halved c) in
+      let y = counted (seen (halved c)) in
+      says (level s f enough) y (c .walk .result) ≡ below (level s f enough) (left (halved c)) (s .args .odd) y
+  left-comes c f enough =
+      let o = halved c in
+      let s = start o in
+      let i = inside o in
+      c .walk .ensures (pred f) (omega arith)
+      ∙ (λ d. writtenWalk (inVisit (points s) (table s) (same s d)) (pred f) (left o) (s .args .odd) (counted (seen o)))
 
-  inner : (c : Split) → SplitsInside (node (opening c)) (Halve (mid c))
-  inner c = subst (SplitsInside (node (opening c))) (c .before .mid .given .1) (seen c .visit2 .ensures .1)
+  -- ---------------- the needs that are not trivial, in the order of the code
+  returns : walk-lts.Need-returns (claims t) (walk-at t) walk.Post
+  returns c f enough =
+      let k = c .before .before .before in
+      let none : next (k .before .args .tally) ≡ Spent = cc in
+      none-left (level (k .before) f enough) none (c .pack .ensures)
 
-  add-next : walk-lts.Need-add-next (claims t) (walk-at t) walk.Post
-  add-next c = let small = row-small (opening c .pre .1 .0) in omega arith
+  visit-requires : walk-lts.Need-visit-requires-2 (claims t) (walk-at t) walk.Post
+  visit-requires c κs =
+      let p = begun (c .before .before) .before .pre .1 in (p .0, p .1, stored-on (p .2))
 
-  point-at-requires : walk-lts.Need-point-at-requires (claims t) (walk-at t) walk.Post
-  point-at-requires c κs =
-      let o = c .before in
-      let h = opening o .pre .1 .0 in
-      let i = inner o in omega (arith, h .points-in, h .fine .whole-points, h .fine .some-points)
-
-  on-sheet-requires : walk-lts.Need-on-sheet-requires (claims t) (walk-at t) walk.Post
-  on-sheet-requires c κs = search needs
-
-  -- what was looked at is the point of the split
-  abbrev splitPoint : Split → Point
-  splitPoint c = point (opening c .args .points .now .now) (mid c)
-
-  looked : (c : Looked) → c .on-sheet .result ≡ onSheet (splitPoint (split c))
-  looked c = c .on-sheet .ensures ∙ ap onSheet (c .before .point-at .ensures)
-
-  next-small : (c : Split) → opening c .args .row + 1 < 8193
-  next-small c = let h = inner c in row-small (left-stands (opening c .pre .1 .0) (h .0) (h .1))
-
-  bad-row-due-requires : walk-lts.Need-bad-row-due-requires (claims t) (walk-at t) walk.Post
-  bad-row-due-requires c κs = let small = next-small (split (c .before)) in omega arith
-
-  -- the right half, as it is left to do, with a count and a tally; after what the left half comes to, it makes the walk
-  abbrev onRight : Split → ℕ → Bool → Tally → Walked Bool
-  onRight c f b v = let s = opening c in writtenWalk (does s) (pred f) (rightOf (node s) (mid c)) b v
-
-  abbrev onLeft : Split → ℕ → Walked Bool
-  onLeft c f =
-      let s = opening c in writtenWalk (does s) (pred f) (leftOf (node s) (mid c)) (odd s) (counted (unspent (seen c)))
-
-  after-left : (c : Split) (f : ℕ) (left : ℕ) → opening c .args .last ≤ f + opening c .args .first
-      → read (opening c) left ≡ onLeft c f
-      → goOn (read (opening c) left) (onRight c f) ≡ walks (opening c) f
-  after-left c f left h p =
-      let s = opening c in
-      halved (does s) (node s) (odd s) (tally s) f (some-level s f h) (left-one (unspent (seen c)))
-      (did (seen c) (c .before .mid .given .1))
-      p
+  on-sheet-at-requires : walk-lts.Need-on-sheet-at-requires (claims t) (walk-at t) walk.Post
+  on-sheet-at-requires c κs =
+      let h = left-in (c .before) in omega (arith, h .fits .some-segment, h .points-in, h .fine .even)
 
   returns-2 : walk-lts.Need-returns-2 (claims t) (walk-at t) walk.Post
-  returns-2 c f h =
+  returns-2 c f enough =
       let k = c .before .before in
-      let o = split k in
-      let s = opening o in
-      let i = inner o in
-      let l = leftOf (node s) (mid o) in
-      let u = unspent (seen o) in
-      let v = counted u in
-      let small = next-small o in
-      let e = c .bad-row-due .ensures in
-      let off = sym (looked k) ∙ not-true _ (c .before .if1 .taken) in
-      let ends-off = end-off (s .args .points .now .now) _ (s .args .first) (mid o) off in
-      let bad = visit-bad (s .args .points .now .now) (s .args .table .now .now) (z s) l _ refl ends-off in
-      let stop = due-stops (next v) (badRow + l .row) (omega arith) (omega arith) in
-      sym (stops false true LineA LineA _ (c .bad-row-due .result) _ (ap (λ r. leb ENDED (endIn r)) e ∙ stop))
-      ∙ after-left o f (c .bad-row-due .result) h
-      (ap (read s) e
-      ∙ ap (λ k. cameTo false true LineA LineA k (due (next v) (badRow + l .row))) (sym (kept u))
-      ∙ reads-bad-due false true LineA LineA (does s) l (odd s) v (pred f) (omega arith) (l .row) small bad)
-
-  -- else both halves begin and end on the sheet
-  split-on : (c : Looked) → c .on-sheet .result ≡ true → T (onSheet (splitPoint (split c)))
-  split-on c e = T-true (sym (looked c) ∙ e)
+      let o = opened k in
+      let s = start o in
+      let i = inside o in
+      let off = sym (k .on-sheet-at .ensures) ∙ not-true _ (c .before .if1 .taken) in
+      bad-left (level s f enough) (made (seen o)) (halves o) (omega arith) (row-small (left-in o))
+      (c .bad-row-due .ensures)
+      (row-bad (points s) (table s) (z s) (left o) (end-off (points s) _ (s .args .first) (split o) off))
 
   walk-requires : walk-lts.Need-walk-requires (claims t) (walk-at t) walk.Post
   walk-requires c κs =
-      let o = split (c .before) in
-      let s = opening o in
-      let h = inner o in
-      let on = split-on (c .before) (not-false _ (c .if1 .left)) in
-      let p = s .pre .1 in
-      (omega (arith, s .pre .0), (left-stands (p .0) (h .0) (h .1), left-ends (p .1) on, stored-on (p .2)))
-
-  stopped-requires : walk-lts.Need-stopped-requires (claims t) (walk-at t) walk.Post
-  stopped-requires c κs = search needs
-
-  left-walked : (c : LeftWalked) (f : ℕ) → opening (halving c) .args .last ≤ f + opening (halving c) .args .first
-      → goOn (read (opening (halving c)) (c .walk .result)) (onRight (halving c) f) ≡ walks (opening (halving c)) f
-  left-walked c f h =
-      let o = halving c in
-      let s = opening o in
-      let i = inner o in
-      let u = unspent (seen o) in
-      after-left o f (c .walk .result) h
-      (ap (λ k. cameTo false true LineA LineA k (c .walk .result)) (sym (kept u))
-      ∙ c .walk .ensures (pred f) (omega arith)
-      ∙ (λ d. writtenWalk (doesAt s (same s d)) (pred f) (leftOf (node s) (mid o)) (odd s) (counted u)))
+      let o = opened (c .before) in
+      let i = inside o in
+      let p = start o .pre in
+      (omega (arith, p .0), (left-in o, left-ends (p .1 .1) (split-on c), stored-on (p .1 .2)))
 
   returns-3 : walk-lts.Need-returns-3 (claims t) (walk-at t) walk.Post
-  returns-3 c f h =
-      let k = c .before in
-      sym (stops false true LineA LineA _ (k .before .walk .result) _ (sym (k .stopped .ensures) ∙ c .if2 .taken))
-      ∙ left-walked (k .before) f h
-
-  sub-right : walk-lts.Need-sub-right (claims t) (walk-at t) walk.Post
-  sub-right c = let h = inner (halving (c .before .before)) in omega arith
-
-  mul-right : walk-lts.Need-mul-right (claims t) (walk-at t) walk.Post
-  mul-right c =
-      let o = halving (c .before .before) in
-      let h = inner o in
-      let small = split-small (opening o .pre .1 .0) (h .0) (h .1) in omega arith
-
-  add-right : walk-lts.Need-add-right (claims t) (walk-at t) walk.Post
-  add-right c =
-      let o = halving (c .before .before) in
-      let h = inner o in
-      let p = opening o .pre .1 .0 in
-      let low = row-small p in
-      let small = split-small p (h .0) (h .1) in omega arith
-
-  -- the left half did not stop the walk
-  left-over : (c : walk-lts.Else2 (claims t) (walk-at t) walk.Post) → endIn (c .before .before .walk .result) < ENDED
-  left-over c = leb-false ENDED _ (sym (c .before .stopped .ensures) ∙ c .if2 .left)
-
-  odd-in-requires : walk-lts.Need-odd-in-requires (claims t) (walk-at t) walk.Post
-  odd-in-requires c κs = search needs
-
-  tally-in-requires : walk-lts.Need-tally-in-requires (claims t) (walk-at t) walk.Post
-  tally-in-requires c κs = search needs
+  returns-3 c f enough =
+      let w = c .before .before in
+      let o = halved w in
+      left-stops (level (start o) f enough) (made (seen o)) (halves o) (w .walk .result)
+      (left-comes w f enough)
+      (sym (c .before .stopped .ensures) ∙ c .if2 .taken)
 
   walk-requires-2 : walk-lts.Need-walk-requires-2 (claims t) (walk-at t) walk.Post
   walk-requires-2 c κs =
-      let w = c .before .before .before .before in
-      let o = halving w in
-      let s = opening o in
-      let h = inner o in
-      let on = split-on (looking w) (not-false _ (w .before .if1 .left)) in
-      let p = s .pre .1 in
-      (omega (arith, s .pre .0), (right-stands (p .0) (h .0) (h .1), right-ends (p .1) on, stored-on (p .2)))
-
-  returns-4 : walk-lts.Need-returns-4 (claims t) (walk-at t) walk.Post
-  returns-4 c f h =
-      let w = c .before .before .before in
-      let s = start w in
-      let e : w .visit2 .result ≡ Bad = cc in
-      ap (read s) (c .bad-row .ensures)
-      ∙ reads-bad false true LineA LineA _ _ (s .args .row) (row-small (s .pre .1 .0))
-      ∙ visited (does s) (node s) (odd s) (tally s) f (some-level s f h) (left-one (unspent w)) (did w e)
-
-  returns-5 : walk-lts.Need-returns-5 (claims t) (walk-at t) walk.Post
-  returns-5 c f h =
-      let w = c .before .before .before in
-      let s = start w in
-      let u = unspent w in
-      let e : w .visit2 .result ≡ Finish = cc in
-      ap (read s) (c .came2 .ensures)
-      ∙ reads-ended false true LineA LineA _ _
-      ∙ ap (λ (k : ℕ). ended (record { allowance = k; visits = counted u .visits })) (sym (kept u))
-      ∙ visited (does s) (node s) (odd s) (tally s) f (some-level s f h) (left-one u) (did w e)
-
-  returns-6 : walk-lts.Need-returns-6 (claims t) (walk-at t) walk.Post
-  returns-6 c f h =
       let k = c .before .before in
       let w = k .before .before in
-      let s = start w in
-      let u = unspent w in
+      let o = halved w in
+      let i = inside o in
+      let p = start o .pre in (
+        omega (arith, p .0),
+        (right-in o, right-ends (p .1 .1) (split-on (w .before)), stored-on (p .1 .2)),
+      )
+
+  returns-4 : walk-lts.Need-returns-4 (claims t) (walk-at t) walk.Post
+  returns-4 c f enough =
+      let w = c .before .before .before in
+      let s = origin w in
+      bad-here (level s f enough) (made w) (c .bad-row .ensures) (row-small (s .pre .1 .0))
+      (did w {v = Bad} (cc))
+
+  returns-5 : walk-lts.Need-returns-5 (claims t) (walk-at t) walk.Post
+  returns-5 c f enough =
+      let w = c .before .before .before in
+      yes-here (level (origin w) f enough) (made w) (c .pack2 .ensures) (did w {v = Finish} (cc))
+
+  returns-6 : walk-lts.Need-returns-6 (claims t) (walk-at t) walk.Post
+  returns-6 c f enough =
+      let k = c .before .before in
+      let w = k .before .before in
+      let s = origin w in
+      let odd = s .args .odd in
       let crossed = k .crossed .given .0 .0 in
-      ap (read s) (c .over .ensures)
-      ∙ reads-over LineA LineA _ _ _
-      ∙ (λ d. over (one-more (odd s) crossed d) (record { allowance = sym (kept u) d; visits = counted u .visits }))
-      ∙ visited (does s) (node s) (odd s) (tally s) f (some-level s f h) (left-one u) (did w (k .crossed .given .1))
+      over-here (level s f enough) (made w) (not (Bool·beq odd crossed)) (c .over .ensures) (one-more odd crossed)
+      (did w (k .crossed .given .1))
 
   returns-7 : walk-lts.Need-returns-7 (claims t) (walk-at t) walk.Post
-  returns-7 c f h =
-      let e = c .before .before .before in
-      let w = e .before .before in
-      let o = halving w in
-      let s = opening o in
-      let i = inner o in
-      let left = w .walk .result in
-      let odd-left = c .before .before .odd-in .ensures in
-      let tally-left = c .before .tally-in .ensures ∙ ap (λ k. tallyIn k left) (kept (unspent (seen o))) in
-      ap (λ (v : Tally). cameTo false true LineA LineA (v .allowance) (c .walk2 .result)) (sym tally-left)
-      ∙ c .walk2 .ensures (pred f) (omega arith)
-      ∙ (λ d. writtenWalk (doesAt s (same s d)) (pred f) (rightOf (node s) (mid o)) (odd-left d) (tally-left d))
-      ∙ sym (ap (λ (k : Walked Bool). goOn k (onRight o f)) (is-over LineA LineA _ left (left-over e)))
-      ∙ left-walked w f h
+  returns-7 c f enough =
+      let k = c .before .before .before in
+      let w = k .before .before in
+      let o = halved w in
+      let s = start o in
+      let i = inside o in
+      let odd = c .before .before .odd-in in
+      let y = c .before .tally-in in
+      right-goes (level s f enough) (made (seen o)) (halves o) (w .walk .result) (left-comes w f enough)
+      (sym (k .before .stopped .ensures) ∙ k .if2 .left)
+      (y .ensures)
+      (c .walk2 .result)
+      (odd .ensures ∙ as-told _)
+      (c .walk2 .ensures (pred f) (omega arith)
+      ∙ (λ d. writtenWalk (inVisit (points s) (table s) (same s d)) (pred f) (right o) (odd .result) (y .result)))
 
 pub +walk-spec : {M : Type 1} → statement M
 +walk-spec =
     close μ-walk λ t.
     walk-lts.spec (claims t) (walk-at t) walk.Post
-    (visit-requires t)
-    (enum-known-counted t)
-    (enum-told t)
-    (came-requires t)
+    (λ c κs. search needs) (λ c. search needs) (λ c. search needs) (λ c κs. search needs)
     (returns t)
-    (visit-requires-2 t)
-    (enum-told-2 t)
-    (bad-row-requires t)
-    (enum-told-3 t)
-    (came-requires-2 t)
-    (enum-known-crossed t)
-    (over-requires t)
-    (enum-known-mid t)
-    (add-next t)
-    (point-at-requires t)
-    (on-sheet-requires t)
-    (bad-row-due-requires t)
+    (visit-requires t)
+    (λ c. search needs)
+    (λ c κs. row-small (origin t (c .before .before) .pre .1 .0))
+    (λ c. search needs) (λ c κs. search needs) (λ c. search needs) (λ c κs. search needs) (λ c. search needs)
+    (λ c. let small = row-small (left-in t c) in omega arith)
+    (on-sheet-at-requires t)
+    (λ c κs. row-small (left-in t (opened t (c .before))))
     (returns-2 t)
     (walk-requires t)
-    (stopped-requires t)
+    (λ c κs. search needs)
     (returns-3 t)
-    (sub-right t)
-    (mul-right t)
-    (add-right t)
-    (odd-in-requires t)
-    (tally-in-requires t)
+    (λ c. let i = inside t (halved t (c .before .before)) in omega arith)
+    (λ c. let small = row-small (right-in t (halved t (c .before .before))) in omega arith)
+    (λ c. let small = row-small (right-in t (halved t (c .before .before))) in omega arith)
+    (λ c κs. search needs) (λ c κs. search needs)
     (walk-requires-2 t)
     (returns-4 t)
     (returns-5 t)

@@ -5,20 +5,18 @@ use mathlib.Core.Bool.{true, false}
 use mathlib.Core.Option.{none}
 use native.Mathlib.Omega.{arith}
 use borrow.Author.Tests.{not-true, not-false}
-use Rattle.whole.specs.Order.{T-true}
+use Rattle.integers.specs.Order.{T-true}
 use Rattle.rules.specs.declared.Line.the-variants.{LineA}
-use Rattle.rules.specs.declared.Refusal.{Refusal}
-use Rattle.rules.specs.declared.Side.the-variants.{Refused}
 use Rattle.rules.specs.Sheet.{onSheet}
-use Rattle.rules.specs.Reply.{sideReply, firstRefusal}
+use Rattle.rules.specs.Reply.{refuses, firstRefusal}
 use Rattle.rules.specs.Rows.{lengthChecks}
 use Rattle.rules.specs.Questions.{sideOfRing}
 use Rattle.line.specs.declared.Checked.{Checked}
 use Rattle.line.specs.declared.Checked.the-variants.{Fine}
-use Rattle.line.specs.Said.{checkedRefusal}
-use Rattle.line.specs.Fine.{LengthsFine}
+use Rattle.line.specs.Checked.{checkedRefusal}
+use Rattle.visits.specs.Fine.{LengthsFine}
 use Rattle.line.proofs.Lengths.{lengths-fine}
-use Rattle.visits.proofs.OnSheets.{on-sheet}
+use Rattle.limits.proofs.OnSheets.{on-sheet}
 use Rattle.inside.proofs.Replies.{in-checked}
 use borrow.Author.Needs.{needs}
 use Rattle.inside.proofs.inside.Statement.{statement}
@@ -43,50 +41,34 @@ on : (c : tie.Else1) → onSheet (c .before .before .before .before .before .arg
 on c = sym (c .before .on-sheet .ensures) ∙ not-false _ (c .if1 .left)
 
 -- ---------------- the checks
-check-lengths-requires : tie.Need-check-lengths-requires
-check-lengths-requires c κs = search needs
-
-enum-known-refusal : tie.Need-enum-known-refusal
-enum-known-refusal c = search needs
-
 returns : tie.Need-returns
-returns c = in-checked _ _ _ _ (lengths-told (c .before .before .before) (c .before .refusal .given .1)) refl refl
-
-enum-told : tie.Need-enum-told
-enum-told c = search needs
-
-on-sheet-requires : tie.Need-on-sheet-requires
-on-sheet-requires c κs = search needs
-
-early-requires : tie.Need-early-requires
-early-requires c κs = search needs
+returns c =
+    let t = c .before .before in
+    c .refuses .ensures ∙ in-checked _ _ _ _ (lengths-told (t .before .before) (t .refusal .given .1)) refl refl
 
 returns-2 : tie.Need-returns-2
 returns-2 c =
-    let o = c .before .before in
-    let off = sym (o .on-sheet .ensures) ∙ not-true _ (c .before .if1 .taken) in
-    ap (λ (r : Refusal). sideReply (Refused r)) (c .early .ensures) ∙ in-checked _ _ _ _ (fine (o .before)) off refl
+    let t = c .before .before in
+    let o = t .before in
+    let off = sym (o .on-sheet .ensures) ∙ not-true _ (t .if1 .taken) in
+    c .refuses2 .ensures ∙ ap refuses (c .before .early .ensures) ∙ in-checked _ _ _ _ (fine (o .before)) off refl
 
 no-ring-requires : tie.Need-no-ring-requires
 no-ring-requires c κs = omega (arith, lengths (c .before .before) .some-points)
 
-early-requires-2 : tie.Need-early-requires-2
-early-requires-2 c κs = search needs
-
 returns-3 : tie.Need-returns-3
 returns-3 c =
-    let r = c .before .before in
-    let none = sym (r .no-ring .ensures) ∙ c .before .if2 .taken in
-    ap (λ (r : Refusal). sideReply (Refused r)) (c .early2 .ensures)
+    let t = c .before .before in
+    let r = t .before in
+    let none = sym (r .no-ring .ensures) ∙ t .if2 .taken in
+    c .refuses3 .ensures
+    ∙ ap refuses (c .before .early2 .ensures)
     ∙ in-checked _ _ _ _ (fine (r .before .before .before)) (on (r .before)) none
 
 -- ---------------- the walk
 ask-requires : tie.Need-ask-requires
 ask-requires c κs =
     let o = c .before .before .before .before in (lengths (o .before .before), on-sheet _ (T-true (on o)))
-
-side-of-ring-requires : tie.Need-side-of-ring-requires
-side-of-ring-requires c κs = search needs
 
 -- what the walk comes to is the reply
 returns-4 : tie.Need-returns-4
@@ -99,18 +81,7 @@ returns-4 c =
 
 pub inside-spec : {M : Type 1} → statement M
 inside-spec =
-    tie.close
-    (tie.spec
-    check-lengths-requires
-    enum-known-refusal
-    returns
-    enum-told
-    on-sheet-requires
-    early-requires
-    returns-2
-    no-ring-requires
-    early-requires-2
-    returns-3
-    ask-requires
-    side-of-ring-requires
+    tie.close (tie.spec
+    (search needs) (search needs) (search needs) returns (search needs) (search needs) (search needs)
+    (search needs) returns-2 no-ring-requires (search needs) (search needs) returns-3 ask-requires (search needs)
     returns-4)

@@ -13,18 +13,6 @@ returns c =
     let ps = c .before .args .points .now in
     let few = lt-ltb _ _ (c .if1 .taken) in sym (λ d. few d || not (samePoint (point ps 0) (point ps (segmentsOf ps))))
 
-point-at-requires : tie.Need-point-at-requires
-point-at-requires c κs = search needs
-
-sub-point-at : tie.Need-sub-point-at
-sub-point-at c = search needs
-
-point-at-requires-2 : tie.Need-point-at-requires-2
-point-at-requires-2 c κs = search needs
-
-same-point-requires : tie.Need-same-point-requires
-same-point-requires c κs = search needs
-
 returns-2 : tie.Need-returns-2
 returns-2 c =
     let ps = c .before .before .before .before .args .points .now in
@@ -36,12 +24,4 @@ returns-2 c =
     ∙ sym (λ d. few d || not (samePoint (point ps 0) (point ps (segmentsOf ps))))
 
 pub no-ring-spec : {M : Type 1} → statement M
-no-ring-spec =
-    tie.close
-    (tie.spec
-    returns
-    point-at-requires
-    sub-point-at
-    point-at-requires-2
-    same-point-requires
-    returns-2)
+no-ring-spec = tie.close (tie.spec returns (search needs) (search needs) (search needs) (search needs) returns-2)

@@ -7,14 +7,10 @@ use borrow.Author.Needs.{needs}
 use Rattle.kneukelboom_c.proofs.kneukelboom_agree.Statement.{statement}
 use Rattle.kneukelboom_c.proofs.kneukelboom_agree.Tie as tie
 
-agree-requires : tie.Need-agree-requires
-agree-requires c κs = search needs
-
-of-agreement-requires : tie.Need-of-agreement-requires
-of-agreement-requires c κs = search needs
-
 returns : tie.Need-returns
-returns c = c .of-agreement .ensures ∙ ap coded (simp (toZ-ofZ {w = w64} (c .before .before .fits .distance)) at (c .before .agree .ensures))
+returns c =
+    let fits = c .before .before .fits in
+    c .coded .ensures ∙ ap coded (simp (toZ-ofZ {w = w64} (fits .distance)) at (c .before .agree .ensures))
 
 pub kneukelboom-agree-spec : {M : Type 1} → statement M
-kneukelboom-agree-spec = tie.close (tie.spec agree-requires of-agreement-requires returns)
+kneukelboom-agree-spec = tie.close (tie.spec (search needs) (search needs) returns)

@@ -7,14 +7,11 @@ use borrow.Author.Needs.{needs}
 use Rattle.kneukelboom_c.proofs.kneukelboom_inside.Statement.{statement}
 use Rattle.kneukelboom_c.proofs.kneukelboom_inside.Tie as tie
 
-inside-requires : tie.Need-inside-requires
-inside-requires c κs = search needs
-
-of-side-requires : tie.Need-of-side-requires
-of-side-requires c κs = search needs
-
 returns : tie.Need-returns
-returns c = c .of-side .ensures ∙ ap coded (simp (toZ-ofZ {w = w64} (c .before .before .fits .x), toZ-ofZ {w = w64} (c .before .before .fits .y)) at (c .before .inside .ensures))
+returns c =
+    let fits = c .before .before .fits in
+    c .coded .ensures ∙ ap coded (simp (toZ-ofZ {w = w64} (fits .x), toZ-ofZ {w = w64} (fits .y)) at
+    (c .before .inside .ensures))
 
 pub kneukelboom-inside-spec : {M : Type 1} → statement M
-kneukelboom-inside-spec = tie.close (tie.spec inside-requires of-side-requires returns)
+kneukelboom-inside-spec = tie.close (tie.spec (search needs) (search needs) returns)

@@ -7,16 +7,11 @@ use borrow.Author.Needs.{needs}
 use Rattle.line.proofs.direction.Statement.{statement}
 use Rattle.line.proofs.direction.Tie as tie
 
-same-point-requires : tie.Need-same-point-requires
-same-point-requires c κs = search needs
-
 returns : tie.Need-returns
 unfolding direction
 returns c =
-    let e : samePoint (c .before .before .args .a) (c .before .before .args .b) ≡ true = sym (c .before .same-point .ensures) ∙ c .if1 .taken in simp e
-
-step-requires : tie.Need-step-requires
-step-requires c κs = search needs
+    let s = c .before .before .args in
+    let e : samePoint (s .a) (s .b) ≡ true = sym (c .before .same-point .ensures) ∙ c .if1 .taken in simp e
 
 returns-2 : tie.Need-returns-2
 unfolding direction
@@ -26,4 +21,4 @@ returns-2 c =
     c .step .ensures ∙ sym (λ d. cond (e d) (record { x = pos 1; y = pos 0 }) (step (s .a) (s .b)))
 
 pub direction-spec : {M : Type 1} → statement M
-direction-spec = tie.close (tie.spec same-point-requires returns step-requires returns-2)
+direction-spec = tie.close (tie.spec (search needs) returns (search needs) returns-2)

@@ -1,6 +1,6 @@
 -- `greater`: the test, read of the numbers, picks the branch of maxZ.
 use mir.Facts.{toZ-ofZ}
-use Rattle.whole.specs.Order.{lt-yes, lt-no, lt-true, lt-false}
+use Rattle.integers.specs.Order.{lt-yes, lt-no, lt-true, lt-false}
 use Rattle.line.proofs.greater.Statement.{statement}
 use Rattle.line.proofs.greater.Tie as tie
 

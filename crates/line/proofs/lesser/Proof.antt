@@ -1,6 +1,6 @@
 -- `lesser`: the test, read of the numbers, picks the branch of minZ.
 use mir.Facts.{toZ-ofZ}
-use Rattle.whole.specs.Order.{lt-yes, lt-no, lt-true, lt-false}
+use Rattle.integers.specs.Order.{lt-yes, lt-no, lt-true, lt-false}
 use Rattle.line.proofs.lesser.Statement.{statement}
 use Rattle.line.proofs.lesser.Tie as tie
 

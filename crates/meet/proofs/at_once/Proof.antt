@@ -2,21 +2,12 @@
 use mathlib.Core.Path.{_≡_, sym, _∙_, ap}
 use Rattle.rules.specs.declared.Next.{Next}
 use Rattle.rules.specs.declared.Next.the-variants.{Spent}
-use Rattle.rules.specs.Reply.{Reply}
+use Rattle.rules.specs.declared.Reply.{Reply}
 use Rattle.rules.specs.Walk.{next, over, onVisit}
 use Rattle.rules.specs.Questions.{yesOrNo}
 use borrow.Author.Needs.{needs}
 use Rattle.meet.proofs.at_once.Statement.{statement}
 use Rattle.meet.proofs.at_once.Tie as tie
-
-visit-requires : tie.Need-visit-requires
-visit-requires c κs = search needs
-
-enum-known-counted : tie.Need-enum-known-counted
-enum-known-counted c = search needs
-
-enum-told : tie.Need-enum-told
-enum-told c = search needs
 
 -- what is said, by the tally that comes next
 abbrev said : tie.Start → Next → Reply
@@ -24,14 +15,16 @@ said s m = yesOrNo (s .args .tally .allowance) (onVisit m (λ y. over tt y))
 
 returns : tie.Need-returns
 returns c =
-    let s = c .before .before .before in
-    let e : next (s .args .tally) ≡ Spent = cc in sym (ap (said s) e)
+    let s = c .before .before .before .before in
+    let e : next (s .args .tally) ≡ Spent = cc in c .says .ensures ∙ sym (ap (said s) e)
 
 returns-2 : tie.Need-returns-2
 returns-2 c =
-    let k = c .before in
+    let k = c .before .before in
     let s = k .before .before .before in
-    sym (ap (said s) (sym (k .before .before .visit .ensures) ∙ k .counted .given .1))
+    c .says2 .ensures ∙ sym (ap (said s) (sym (k .before .before .visit .ensures) ∙ k .counted .given .1))
 
 pub at-once-spec : {M : Type 1} → statement M
-at-once-spec = tie.close (tie.spec visit-requires enum-known-counted enum-told returns returns-2)
+at-once-spec =
+    tie.close (tie.spec
+    (search needs) (search needs) (search needs) (search needs) returns (search needs) returns-2)

@@ -8,7 +8,7 @@ use native.Mathlib.Omega.{arith}
 use borrow.Author.Tests.{not-true, not-false}
 use lib.Dec.{T}
 use lib.IntN.{ℤ}
-use Rattle.whole.specs.Order.{T-true}
+use Rattle.integers.specs.Order.{T-true}
 use Rattle.rules.specs.declared.Line.the-variants.{LineA, LineB}
 use Rattle.rules.specs.declared.Pair.{Pair}
 use Rattle.rules.specs.Sheet.{segmentsOf}
@@ -16,8 +16,8 @@ use Rattle.rules.specs.Tree.{rowAt}
 use Rattle.rules.specs.Rows.{good}
 use Rattle.rules.specs.Walk.{Visit, fresh}
 use Rattle.rules.specs.Questions.{Nothing, root, boxesApart, yesOrNo, meetVisit}
-use Rattle.ends.specs.Came.{cameTo}
-use Rattle.ends.proofs.Dues.{reads-bad-due, reads-second-due}
+use Rattle.ending.specs.Ending.{walkedIn}
+use Rattle.ending.proofs.Dues.{reads-bad-due, reads-second-due}
 use Rattle.row.proofs.Places.{root-stands}
 use Rattle.meet_visit.specs.Pairs.{Read}
 use Rattle.meet_visit.proofs.GoodRows.{placed}
@@ -79,46 +79,16 @@ good-a c = T-true (sym (told-a (c .before)) ∙ not-false _ (c .if1 .left))
 good-b : (c : tie.Else2) → T (rootGoodB (start-b c))
 good-b c = T-true (sym (told-b (c .before)) ∙ not-false _ (c .if2 .left))
 
-sub-last-a : tie.Need-sub-last-a
-sub-last-a c = search needs
-
-sub-last-b : tie.Need-sub-last-b
-sub-last-b c = search needs
-
-row-at-requires : tie.Need-row-at-requires
-row-at-requires c κs = search needs
-
-row-good-requires : tie.Need-row-good-requires
-row-good-requires c κs = search needs
-
-bad-row-due-requires : tie.Need-bad-row-due-requires
-bad-row-due-requires c κs = search needs
-
-answer-requires : tie.Need-answer-requires
-answer-requires c κs = search needs
-
 returns : tie.Need-returns
 returns c =
     let s = c .before .before .before .before .before in
     let k = s .args .allowance in
     let bad = sym (told-a (c .before .before .before)) ∙ not-true _ (c .before .before .if1 .taken) in
     c .answer .ensures
-    ∙ ap (λ (r : ℕ). yesOrNo k (cameTo tt tt LineA LineB k r)) (c .before .bad-row-due .ensures)
+    ∙ ap (λ (r : ℕ). yesOrNo k (walkedIn tt tt LineA LineB k r)) (c .before .bad-row-due .ensures)
     ∙ ap (yesOrNo k)
     (reads-bad-due tt tt LineA LineB (does s) (roots s) tt (fresh k) (levels s) (some s) 0 (omega arith)
     (bad-a _ _ _ _ (roots s) bad))
-
-row-at-requires-2 : tie.Need-row-at-requires-2
-row-at-requires-2 c κs = search needs
-
-row-good-requires-2 : tie.Need-row-good-requires-2
-row-good-requires-2 c κs = search needs
-
-bad-second-due-requires : tie.Need-bad-second-due-requires
-bad-second-due-requires c κs = search needs
-
-answer-requires-2 : tie.Need-answer-requires-2
-answer-requires-2 c κs = search needs
 
 returns-2 : tie.Need-returns-2
 returns-2 c =
@@ -127,7 +97,7 @@ returns-2 c =
     let k = s .args .allowance in
     let bad = sym (told-b (c .before .before .before)) ∙ not-true _ (c .before .before .if2 .taken) in
     c .answer2 .ensures
-    ∙ ap (λ (r : ℕ). yesOrNo k (cameTo tt tt LineA LineB k r)) (c .before .bad-second-due .ensures)
+    ∙ ap (λ (r : ℕ). yesOrNo k (walkedIn tt tt LineA LineB k r)) (c .before .bad-second-due .ensures)
     ∙ ap (yesOrNo k)
     (reads-second-due tt tt LineA LineB (does s) (roots s) tt (fresh k) (levels s) (some s) 0 (omega arith)
     (bad-b _ _ _ _ (roots s) (good-a f) bad))
@@ -150,9 +120,6 @@ read-b c = record {
 boxes-apart-requires : tie.Need-boxes-apart-requires
 boxes-apart-requires c κs = (placed (read-a (past-a c)) .box-on, placed (read-b c) .box-on)
 
-at-once-requires : tie.Need-at-once-requires
-at-once-requires c κs = search needs
-
 returns-3 : tie.Need-returns-3
 returns-3 c =
     let g = c .before .before .before in
@@ -171,14 +138,9 @@ walk-requires c κs =
     let g = c .before .before .before .before .before .before in
     let s = start-b g in
     record {
-      a-stands = root-stands (s .pre .0);
-      b-stands = root-stands (s .pre .1);
-      a-good = good-a (past-a g);
-      b-good = good-b g;
+      of-a = record { stands = root-stands (s .pre .0); row-good = good-a (past-a g) };
+      of-b = record { stands = root-stands (s .pre .1); row-good = good-b g };
     }
-
-answer-requires-3 : tie.Need-answer-requires-3
-answer-requires-3 c κs = search needs
 
 returns-4 : tie.Need-returns-4
 returns-4 c =
@@ -187,23 +149,7 @@ returns-4 c =
 
 pub from-roots-spec : {M : Type 1} → statement M
 from-roots-spec =
-    tie.close
-    (tie.spec
-    sub-last-a
-    sub-last-b
-    row-at-requires
-    row-good-requires
-    bad-row-due-requires
-    answer-requires
-    returns
-    row-at-requires-2
-    row-good-requires-2
-    bad-second-due-requires
-    answer-requires-2
-    returns-2
-    boxes-apart-requires
-    at-once-requires
-    returns-3
-    walk-requires
-    answer-requires-3
-    returns-4)
+    tie.close (tie.spec
+    (search needs) (search needs) (search needs) (search needs) (search needs) (search needs) returns
+    (search needs) (search needs) (search needs) (search needs) returns-2 boxes-apart-requires (search needs)
+    returns-3 walk-requires (search needs) returns-4)

@@ -5,8 +5,8 @@ use Rattle.rules.specs.declared.Line.the-variants.{LineA, LineB}
 use Rattle.rules.specs.Reply.{firstRefusal}
 use Rattle.rules.specs.Rows.{lengthChecks}
 use Rattle.line.specs.declared.Checked.the-variants.{Fine}
-use Rattle.line.specs.Said.{checkedRefusal}
-use Rattle.line.specs.Fine.{LengthsFine}
+use Rattle.line.specs.Checked.{checkedRefusal}
+use Rattle.visits.specs.Fine.{LengthsFine}
 use Rattle.line.proofs.Lengths.{lengths-fine}
 use Rattle.meet.proofs.Replies.{meet-checked}
 use borrow.Author.Needs.{needs}
@@ -38,36 +38,25 @@ fine-a c = lengths-fine LineA _ _ (none-of-a (c .before .before .before))
 fine-b : (c : tie.After-enum-told2) → LengthsFine (start-2 c .args .points-b .now) (start-2 c .args .table-b .now)
 fine-b c = lengths-fine LineB _ _ (none-of-b c)
 
-check-lengths-requires : tie.Need-check-lengths-requires
-check-lengths-requires c κs = search needs
-
-enum-known-refusal : tie.Need-enum-known-refusal
-enum-known-refusal c = search needs
-
 returns : tie.Need-returns
 returns c =
-    let a = c .before .before .before .before .args in
-    meet-checked (a .points-a .now) (a .table-a .now) (a .points-b .now) (a .table-b .now) (a .allowance)
-    (sym (c .before .before .before .check-lengths .ensures) ∙ ap checkedRefusal (c .before .refusal .given .1)) refl
-
-enum-told : tie.Need-enum-told
-enum-told c = search needs
-
-check-lengths-requires-2 : tie.Need-check-lengths-requires-2
-check-lengths-requires-2 c κs = search needs
-
-enum-known-refusal-2 : tie.Need-enum-known-refusal-2
-enum-known-refusal-2 c = search needs
+    let t = c .before .before in
+    let k = t .before .before in
+    let a = k .before .args in
+    c .refuses .ensures
+    ∙ meet-checked (a .points-a .now) (a .table-a .now) (a .points-b .now) (a .table-b .now) (a .allowance)
+    (sym (k .check-lengths .ensures) ∙ ap checkedRefusal (t .refusal .given .1)) refl
 
 returns-2 : tie.Need-returns-2
 returns-2 c =
-    let f = c .before .before .before .before in
+    let t = c .before .before in
+    let k = t .before .before in
+    let f = k .before in
     let a = start f .args in
-    meet-checked (a .points-a .now) (a .table-a .now) (a .points-b .now) (a .table-b .now) (a .allowance) (none-of-a f)
-    (sym (c .before .before .before .check-lengths2 .ensures) ∙ ap checkedRefusal (c .before .refusal2 .given .1))
-
-enum-told-2 : tie.Need-enum-told-2
-enum-told-2 c = search needs
+    c .refuses2 .ensures
+    ∙ meet-checked (a .points-a .now) (a .table-a .now) (a .points-b .now) (a .table-b .now) (a .allowance)
+    (none-of-a f)
+    (sym (k .check-lengths2 .ensures) ∙ ap checkedRefusal (t .refusal2 .given .1))
 
 from-roots-requires : tie.Need-from-roots-requires
 from-roots-requires c κs = (fine-a c, fine-b c)
@@ -82,15 +71,6 @@ returns-3 c =
 
 pub meet-spec : {M : Type 1} → statement M
 meet-spec =
-    tie.close
-    (tie.spec
-    check-lengths-requires
-    enum-known-refusal
-    returns
-    enum-told
-    check-lengths-requires-2
-    enum-known-refusal-2
-    returns-2
-    enum-told-2
-    from-roots-requires
-    returns-3)
+    tie.close (tie.spec
+    (search needs) (search needs) (search needs) returns (search needs) (search needs) (search needs)
+    (search needs) returns-2 (search needs) from-roots-requires returns-3)

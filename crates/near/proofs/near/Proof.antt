@@ -7,20 +7,20 @@ use borrow.Author.Tests.{not-true, not-false}
 use lib.IntN.{ℤ}
 use mir.Syntax.{w64}
 use mir.Facts.{toZ-ofZ}
-use Rattle.whole.specs.Order.{T-true}
-use Rattle.rules.specs.declared.Answer.the-variants.{Refused}
+use Rattle.integers.specs.Order.{T-true}
 use Rattle.rules.specs.declared.Line.the-variants.{LineA, LineB}
 use Rattle.rules.specs.declared.Refusal.{Refusal}
 use Rattle.rules.specs.Sheet.{distanceFits, onSheet}
-use Rattle.rules.specs.Reply.{Reply, firstRefusal, orRefused, answerReply}
+use Rattle.rules.specs.declared.Reply.{Reply}
+use Rattle.rules.specs.Reply.{firstRefusal, orRefused, refuses}
 use Rattle.rules.specs.Rows.{lengthChecks}
 use Rattle.rules.specs.Walk.{Walked, fresh}
 use Rattle.rules.specs.Questions.{Nothing, yesOrNo, nearWalk, nearReply}
 use Rattle.line.specs.declared.Checked.the-variants.{Fine}
-use Rattle.line.specs.Fine.{LengthsFine}
-use Rattle.line.specs.Said.{checkedRefusal}
+use Rattle.visits.specs.Fine.{LengthsFine}
+use Rattle.line.specs.Checked.{checkedRefusal}
 use Rattle.visits.proofs.Checks.{orElse}
-use Rattle.visits.proofs.OnSheets.{on-sheet}
+use Rattle.limits.proofs.OnSheets.{on-sheet}
 use Rattle.line.proofs.Stored.{stored-abs}
 use Rattle.reach.proofs.Sizes.{distance-abs}
 use Rattle.line.proofs.Lengths.{lengths-fine}
@@ -65,38 +65,21 @@ decided : (s : tie.Start) {o : Option Refusal} {d b : Bool}
     ≡ reply s
 decided s = near-checked (ps s) (rows s) (s .args .z) (s .args .distance) (s .args .allowance)
 
-check-lengths-requires : tie.Need-check-lengths-requires
-check-lengths-requires c κs = search needs
-
-enum-known-checked : tie.Need-enum-known-checked
-enum-known-checked c = search needs
-
 returns : tie.Need-returns
 returns c =
-    let said = c .before .before .before .check-lengths .ensures in
-    decided (c .before .before .before .before) (sym said ∙ ap checkedRefusal (c .before .checked .given .1)) refl refl
-
-enum-told : tie.Need-enum-told
-enum-told c = search needs
-
-distance-fits-requires : tie.Need-distance-fits-requires
-distance-fits-requires c κs = search needs
-
-early-requires : tie.Need-early-requires
-early-requires c κs = search needs
+    let t = c .before .before in
+    let k = t .before .before in
+    c .refuses .ensures
+    ∙ decided (k .before) (sym (k .check-lengths .ensures) ∙ ap checkedRefusal (t .checked .given .1)) refl refl
 
 returns-2 : tie.Need-returns-2
 returns-2 c =
-    let k = c .before .before .before in
-    let off = sym (distance-said (c .before .before)) ∙ not-true _ (c .before .if1 .taken) in
-    ap (λ (r : Refusal). answerReply (Refused r)) (c .early .ensures)
+    let t = c .before .before in
+    let k = t .before .before in
+    let off = sym (distance-said (t .before)) ∙ not-true _ (t .if1 .taken) in
+    c .refuses2 .ensures
+    ∙ ap refuses (c .before .early .ensures)
     ∙ decided (k .before .before .before) (fine k) off refl
-
-on-sheet-requires : tie.Need-on-sheet-requires
-on-sheet-requires c κs = search needs
-
-early-requires-2 : tie.Need-early-requires-2
-early-requires-2 c κs = search needs
 
 -- the distance passed
 fits : (c : tie.Else1) → distanceFits (c .before .before .before .before .before .args .distance) ≡ true
@@ -104,10 +87,13 @@ fits c = sym (distance-said (c .before)) ∙ not-false _ (c .if1 .left)
 
 returns-3 : tie.Need-returns-3
 returns-3 c =
-    let k = c .before .before .before .before .before in
-    let off = sym (c .before .before .on-sheet .ensures) ∙ not-true _ (c .before .if2 .taken) in
-    ap (λ (r : Refusal). answerReply (Refused r)) (c .early2 .ensures)
-    ∙ decided (k .before .before .before) (fine k) (fits (c .before .before .before)) off
+    let t = c .before .before in
+    let e = t .before .before in
+    let k = e .before .before in
+    let off = sym (t .before .on-sheet .ensures) ∙ not-true _ (t .if2 .taken) in
+    c .refuses3 .ensures
+    ∙ ap refuses (c .before .early2 .ensures)
+    ∙ decided (k .before .before .before) (fine k) (fits e) off
 
 abbrev start : tie.Else2 → tie.Start
 start c = c .before .before .before .before .before .before .before
@@ -131,9 +117,6 @@ ask-any-requires c κs =
     let d = distance-abs (start k .args .distance) (T-true (fits (k .before .before))) in
     (lengths (k .before .before .before .before), on-sheet _ (T-true (on k)), stored-abs d tt)
 
-answer-requires : tie.Need-answer-requires
-answer-requires c κs = search needs
-
 returns-4 : tie.Need-returns-4
 returns-4 c =
     let k = c .before .before .before .before in
@@ -143,18 +126,7 @@ returns-4 c =
 
 pub near-spec : {M : Type 1} → statement M
 near-spec =
-    tie.close
-    (tie.spec
-    check-lengths-requires
-    enum-known-checked
-    returns
-    enum-told
-    distance-fits-requires
-    early-requires
-    returns-2
-    on-sheet-requires
-    early-requires-2
-    returns-3
-    ask-any-requires
-    answer-requires
-    returns-4)
+    tie.close (tie.spec
+    (search needs) (search needs) (search needs) returns (search needs) (search needs) (search needs)
+    (search needs) returns-2 (search needs) (search needs) (search needs) returns-3 ask-any-requires
+    (search needs) returns-4)

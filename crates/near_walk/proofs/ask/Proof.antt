@@ -3,7 +3,7 @@ use mathlib.Core.Path.{_∙_}
 use native.Mathlib.Omega.{arith}
 use lib.IntN.{_*ℤ_}
 use mir.Syntax.{w64}
-use Rattle.whole.specs.Range.{fits-of}
+use Rattle.integers.specs.Range.{fits-of}
 use Rattle.rules.specs.Sheet.{segmentsOf}
 use Rattle.rules.specs.Walk.{walk}
 use Rattle.rules.specs.Questions.{root, nearVisit}
@@ -13,9 +13,6 @@ use Rattle.reach.proofs.Sizes.{square-abs}
 use borrow.Author.Needs.{needs}
 use Rattle.near_walk.proofs.ask.Statement.{statement}
 use Rattle.near_walk.proofs.ask.Tie as tie
-
-sub-last : tie.Need-sub-last
-sub-last c = search needs
 
 mul-walk : tie.Need-mul-walk
 mul-walk c = fits-of w64 (square-abs (stored-abs (c .pre .0 .2) tt)) tt
@@ -39,4 +36,4 @@ returns c l m =
     ∙ (λ j. walk (nearVisit l ps (a .table .now .now) (z j) (a .d)) f (root ps) tt (a .tally))
 
 pub ask-spec : {M : Type 1} → statement M
-ask-spec = tie.close (tie.spec sub-last mul-walk walk-requires returns)
+ask-spec = tie.close (tie.spec (λ c. search needs) mul-walk walk-requires returns)

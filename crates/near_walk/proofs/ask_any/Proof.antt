@@ -2,27 +2,22 @@
 use mathlib.Core.Path.{sym, _∙_, ap}
 use borrow.Author.Tests.{not-true, not-false}
 use lib.IntN.{ℤ}
-use Rattle.whole.specs.Order.{T-true}
+use Rattle.integers.specs.Order.{T-true}
 use Rattle.rules.specs.Questions.{nearWalk}
 use Rattle.line.proofs.Stored.{stored, stored-abs}
-use Rattle.ends.specs.Came.{cameTo}
+use Rattle.ending.specs.Ending.{walkedIn}
 use Rattle.near_walk.proofs.Root.{root-bad}
 use borrow.Author.Needs.{needs}
 use Rattle.near_walk.proofs.ask_any.Statement.{statement}
 use Rattle.near_walk.proofs.ask_any.Tie as tie
 
-ends-on-sheet-requires : tie.Need-ends-on-sheet-requires
-ends-on-sheet-requires c κs = search needs
-
-bad-row-due-requires : tie.Need-bad-row-due-requires
-bad-row-due-requires c κs = search needs
-
 returns : tie.Need-returns
 returns c l m =
-    let s = c .before .before .before .before in
+    let k = c .before .before in
+    let s = k .before .before in
     let a = s .args in
-    let off = sym (c .before .before .ends-on-sheet .ensures) ∙ not-true _ (c .before .if1 .taken) in
-    ap (cameTo tt tt l m (a .tally .allowance)) (c .bad-row-due .ensures)
+    let off = sym (k .ends-on-sheet .ensures) ∙ not-true _ (c .before .if1 .taken) in
+    ap (walkedIn tt tt l m (a .tally .allowance)) (c .bad-row-due .ensures)
     ∙ root-bad l m (a .z) (a .d) (a .tally) (s .pre .0) off
 
 ask-requires : tie.Need-ask-requires
@@ -33,10 +28,11 @@ ask-requires c κs =
 
 returns-2 : tie.Need-returns-2
 returns-2 c l m =
-    let s = c .before .before .before .before in
+    let k = c .before .before in
+    let s = k .before .before in
     let a = s .args in
     c .ask .ensures l m
     ∙ ap (λ (d : ℤ). nearWalk l (a .points .now .now) (a .table .now .now) (a .z) d (a .tally)) (stored (s .pre .2) tt)
 
 pub ask-any-spec : {M : Type 1} → statement M
-ask-any-spec = tie.close (tie.spec ends-on-sheet-requires bad-row-due-requires returns ask-requires returns-2)
+ask-any-spec = tie.close (tie.spec (λ c κs. search needs) (λ c κs. search needs) returns ask-requires returns-2)

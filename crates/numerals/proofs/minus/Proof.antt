@@ -17,9 +17,6 @@ small (suc n) h = record { sfits = omega arith }
 less : (v : ℕ) → v < 10000000000 → pos 0 -ℤ toZ w64 v ≡ negℤ (pos v)
 less v h = ap (λ z. pos 0 -ℤ z) (toZ-pos w64 {n = v} (omega arith)) ∙ +ℤ-idl (negℤ (pos v))
 
-cast-result : tie.Need-cast-result
-cast-result c = search needs
-
 sub-result : tie.Need-sub-result
 sub-result c = rw (less (c .args .v) (c .pre)) (small (c .args .v) (c .pre))
 
@@ -27,4 +24,4 @@ returns : tie.Need-returns
 returns c = rw (less (c .args .v) (c .pre)) (toZ-ofZ {w = w64} (small (c .args .v) (c .pre)))
 
 pub minus-spec : {M : Type 1} → statement M
-minus-spec = tie.close (tie.spec cast-result sub-result returns)
+minus-spec = tie.close (tie.spec (search needs) sub-result returns)

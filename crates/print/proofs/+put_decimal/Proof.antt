@@ -9,140 +9,49 @@ use Prim.Native.Nat.{ℕ, _/_, _<_}
 use borrow.Fn.Kinds.{In}
 use borrow.Fn.PlainCycle.{Measures, is, falls, and}
 use Rattle.print.proofs.put_decimal.Reads as put-decimal
-use Rattle.print.proofs.put_decimal.Kinds as put-decimal-kinds
-use Rattle.print.proofs.+put_decimal.Lts-put_decimal as put-decimal-lts
-use Rattle.print.proofs.put_byte.Reads as put-byte-reads
+use Rattle.print.proofs.put_decimal.Kinds as kinds
+use Rattle.print.proofs.+put_decimal.Lts-put_decimal as lts
+use Rattle.print.proofs.put_byte.Reads as put-byte
 use Rattle.print.proofs.+put_decimal.{statement}
 use Rattle.print.proofs.+put_decimal.Tie.{close}
 
-abbrev μ-put-decimal : Measures 1 put-decimal-kinds.ps ℕ
-μ-put-decimal κs a = a .1 .1 .0
+abbrev μ : Measures 1 kinds.ps ℕ
+μ κs a = a .1 .1 .0
 
-abbrev put-decimal-at : ℕ → In 1 put-decimal-kinds.ps
-put-decimal-at t =
-    and 1 put-decimal-kinds.ps (is 1 put-decimal-kinds.ps μ-put-decimal t) put-decimal.Pre
+module _ (t : ℕ) where
+  abbrev here : In 1 kinds.ps
+  here = and 1 kinds.ps (is 1 kinds.ps μ t) put-decimal.Pre
 
-abbrev put-decimal-below : ℕ → In 1 put-decimal-kinds.ps
-put-decimal-below t =
-    and 1 put-decimal-kinds.ps (falls 1 put-decimal-kinds.ps _<_ μ-put-decimal t) put-decimal.Pre
+  abbrev below : In 1 kinds.ps
+  below = and 1 kinds.ps (falls 1 kinds.ps _<_ μ t) put-decimal.Pre
 
-put-decimal-cast-put-byte : (t : ℕ) → put-decimal-lts.Need-cast-put-byte (
-  put-byte-reads.Asked,
-  put-byte-reads.Learnt,
-  put-decimal-below t,
-  put-decimal.Post,
-) (put-decimal-at t) put-decimal.Post
-put-decimal-cast-put-byte t c = omega arith
+  abbrev callees : lts.Claims
+  callees = (put-byte.Asked, put-byte.Learnt, below, put-decimal.Post)
 
-put-decimal-add-put-byte : (t : ℕ) → put-decimal-lts.Need-add-put-byte (
-  put-byte-reads.Asked,
-  put-byte-reads.Learnt,
-  put-decimal-below t,
-  put-decimal.Post,
-) (put-decimal-at t) put-decimal.Post
-put-decimal-add-put-byte t c = omega arith
+  returns : lts.Need-returns callees here put-decimal.Post
+  returns c =
+      let s = c .before .before .before .before .before .before in
+      put-same (sym (decimal-one (s .args .n) (omega arith))) (c .before .before .put-byte .ensures)
 
-put-decimal-put-byte-requires : (t : ℕ) → put-decimal-lts.Need-put-byte-requires (
-  put-byte-reads.Asked,
-  put-byte-reads.Learnt,
-  put-decimal-below t,
-  put-decimal.Post,
-) (put-decimal-at t) put-decimal.Post
-put-decimal-put-byte-requires t c κs = omega arith
+  put-byte-requires-2 : lts.Need-put-byte-requires-2 callees here put-decimal.Post
+  put-byte-requires-2 c κs =
+      let s = c .before .before .before .before .before .before .before in
+      let tenth = c .before .before .before .put-decimal in
+      let kept = tenth .kept .0 in
+      let behind = tenth .ensures .behind in
+      let short = length-tenth (s .args .n) (omega arith) (s .fits .n .fits) in
+      omega (arith, s .pre .1)
 
-put-decimal-same-length : (t : ℕ) → put-decimal-lts.Need-same-length (
-  put-byte-reads.Asked,
-  put-byte-reads.Learnt,
-  put-decimal-below t,
-  put-decimal.Post,
-) (put-decimal-at t) put-decimal.Post
-put-decimal-same-length t c = search needs
-
-put-decimal-returns : (t : ℕ) → put-decimal-lts.Need-returns (
-  put-byte-reads.Asked,
-  put-byte-reads.Learnt,
-  put-decimal-below t,
-  put-decimal.Post,
-) (put-decimal-at t) put-decimal.Post
-put-decimal-returns t c =
-    put-same (sym (decimal-one (c .before .before .before .before .before .before .args .n) (omega arith))) (c .before .before .put-byte .ensures)
-
-put-decimal-put-decimal-requires : (t : ℕ) → put-decimal-lts.Need-put-decimal-requires (
-  put-byte-reads.Asked,
-  put-byte-reads.Learnt,
-  put-decimal-below t,
-  put-decimal.Post,
-) (put-decimal-at t) put-decimal.Post
-put-decimal-put-decimal-requires t c κs = omega arith
-
-put-decimal-cast-put-byte-2 : (t : ℕ) → put-decimal-lts.Need-cast-put-byte-2 (
-  put-byte-reads.Asked,
-  put-byte-reads.Learnt,
-  put-decimal-below t,
-  put-decimal.Post,
-) (put-decimal-at t) put-decimal.Post
-put-decimal-cast-put-byte-2 t c = omega arith
-
-put-decimal-add-put-byte-2 : (t : ℕ) → put-decimal-lts.Need-add-put-byte-2 (
-  put-byte-reads.Asked,
-  put-byte-reads.Learnt,
-  put-decimal-below t,
-  put-decimal.Post,
-) (put-decimal-at t) put-decimal.Post
-put-decimal-add-put-byte-2 t c = omega arith
-
-put-decimal-put-byte-requires-2 : (t : ℕ) → put-decimal-lts.Need-put-byte-requires-2 (
-  put-byte-reads.Asked,
-  put-byte-reads.Learnt,
-  put-decimal-below t,
-  put-decimal.Post,
-) (put-decimal-at t) put-decimal.Post
-put-decimal-put-byte-requires-2 t c κs =
-    let s = c .before .before .before .before .before .before .before in
-    let tenth = c .before .before .before .put-decimal in
-    let kept = tenth .kept .0 in
-    let behind = tenth .ensures .behind in
-    let short = length-tenth (s .args .n) (omega arith) (s .fits .n .fits) in
-    omega (arith, s .pre .1)
-
-put-decimal-same-length-2 : (t : ℕ) → put-decimal-lts.Need-same-length-2 (
-  put-byte-reads.Asked,
-  put-byte-reads.Learnt,
-  put-decimal-below t,
-  put-decimal.Post,
-) (put-decimal-at t) put-decimal.Post
-put-decimal-same-length-2 t c = search needs
-
-put-decimal-returns-2 : (t : ℕ) → put-decimal-lts.Need-returns-2 (
-  put-byte-reads.Asked,
-  put-byte-reads.Learnt,
-  put-decimal-below t,
-  put-decimal.Post,
-) (put-decimal-at t) put-decimal.Post
-put-decimal-returns-2 t c =
-    let s = c .before .before .before .before .before .before .before .before .before .before in
-    let tenth = c .before .before .before .before .before .before .put-decimal in
-    let last = c .before .before .put-byte2 in
-    put-same (sym (decimal-more (s .args .n) (omega arith) (s .fits .n .fits)))
-    (put-behind (s .args .out .now) (s .args .at) (omega arith) (decimal (s .args .n / 10)) (tenth .ensures) (last .ensures))
+  returns-2 : lts.Need-returns-2 callees here put-decimal.Post
+  returns-2 c =
+      let s = c .before .before .before .before .before .before .before .before .before .before in
+      let tenth = c .before .before .before .before .before .before .put-decimal in
+      put-same (sym (decimal-more (s .args .n) (omega arith) (s .fits .n .fits)))
+      (put-behind (s .args .out .now) (s .args .at) (omega arith) (decimal (s .args .n / 10)) (tenth .ensures)
+      (c .before .before .put-byte2 .ensures))
 
 pub +put-decimal-spec : {M : Type 1} → statement M
-+put-decimal-spec = close μ-put-decimal λ t. put-decimal-lts.spec (
-  put-byte-reads.Asked,
-  put-byte-reads.Learnt,
-  put-decimal-below t,
-  put-decimal.Post,
-)
-    (put-decimal-at t)
-    put-decimal.Post
-    (put-decimal-cast-put-byte t)
-    (put-decimal-add-put-byte t)
-    (put-decimal-put-byte-requires t)
-    (put-decimal-same-length t)
-    (put-decimal-returns t)
-    (put-decimal-put-decimal-requires t)
-    (put-decimal-cast-put-byte-2 t)
-    (put-decimal-add-put-byte-2 t)
-    (put-decimal-put-byte-requires-2 t)
-    (put-decimal-same-length-2 t)
-    (put-decimal-returns-2 t)
++put-decimal-spec =
+    close μ λ t. lts.spec (callees t) (here t) put-decimal.Post
+    (λ c. omega arith) (λ c. omega arith) (λ c κs. omega arith) (search needs) (returns t) (λ c κs. omega arith)
+    (λ c. omega arith) (λ c. omega arith) (put-byte-requires-2 t) (search needs) (returns-2 t)

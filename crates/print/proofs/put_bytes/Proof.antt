@@ -1,4 +1,4 @@
--- `put_bytes` copies: before each turn the first i bytes are written, and all else is as it was.
+-- `put_bytes` copies: before each round the first i bytes are written, and all else is as it was.
 use mathlib.Core.Path.{_≡_, refl, sym, _∙_, ap}
 use Prim.Native.Nat.{_+_, _-_, _≤_}
 use native.Mathlib.Numerals.{add-one}
@@ -18,21 +18,6 @@ abbrev μ-loop : tie.MeasureT-loop
 loop-holds : tie.Need-loop-holds Inv-loop μ-loop
 loop-holds c = (paste-zero (c .args .out .now) (c .args .at) (c .args .bytes .now), omega arith, refl)
 
-shared-slice-read-out : tie.Need-shared-slice-read-out Inv-loop μ-loop
-shared-slice-read-out c = omega arith
-
-add-out : tie.Need-add-out Inv-loop μ-loop
-add-out c = omega arith
-
-slice-write-out : tie.Need-slice-write-out Inv-loop μ-loop
-slice-write-out c = omega arith
-
-add-i : tie.Need-add-i Inv-loop μ-loop
-add-i c = omega arith
-
-loop-less : tie.Need-loop-less Inv-loop μ-loop
-loop-less c = omega arith
-
 loop-again : tie.Need-loop-again Inv-loop μ-loop
 loop-again c =
     let s = c .before .before .before in
@@ -40,14 +25,12 @@ loop-again c =
     let d = s .args .out .now in
     let at = s .args .at in
     let bytes = s .args .bytes .now in (
-      (λ t. set (loop .inv .0 t) (at + loop .i) (getD bytes (loop .i) 0)) ∙ paste-suc d at bytes (loop .i) 0 (omega arith) (omega arith)
+      (λ t. set (loop .inv .0 t) (at + loop .i) (getD bytes (loop .i) 0))
+          ∙ paste-suc d at bytes (loop .i) 0 (omega arith) (omega arith)
           ∙ ap (paste d at bytes) (sym (add-one (loop .i))),
       omega arith,
       length-set (loop .out) (at + loop .i) (getD bytes (loop .i) 0) ∙ loop .inv .2,
     )
-
-add-result : tie.Need-add-result Inv-loop μ-loop
-add-result c = omega arith
 
 same-length : tie.Need-same-length Inv-loop μ-loop
 same-length c = c .before .loop .inv .2
@@ -60,17 +43,6 @@ returns c =
 
 pub put-bytes-spec : {M : Type 1} → statement M
 put-bytes-spec =
-    tie.close
-    (tie.spec
-    Inv-loop
-    μ-loop
-    loop-holds
-    shared-slice-read-out
-    add-out
-    slice-write-out
-    add-i
-    loop-less
-    loop-again
-    add-result
-    same-length
-    returns)
+    tie.close (tie.spec
+    Inv-loop μ-loop loop-holds (λ c. omega arith) (λ c. omega arith) (λ c. omega arith) (λ c. omega arith)
+    (λ c. omega arith) loop-again (λ c. omega arith) same-length returns)

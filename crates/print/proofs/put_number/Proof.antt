@@ -1,24 +1,20 @@
 -- `put_number`: the digits stand behind the tab.
 use mathlib.Core.List.{[], _∷_}
+use Prim.Native.Nat.{_≤_}
 use native.Mathlib.Omega.{arith}
+use lib.ListN.{length}
 use Rattle.print.proofs.Writing.{put-behind}
 use borrow.Author.Needs.{needs}
 use Rattle.print.proofs.put_number.Statement.{statement}
 use Rattle.print.proofs.put_number.Tie as tie
 
-put-byte-requires : tie.Need-put-byte-requires
-put-byte-requires c κs = search needs
-
-put-decimal-requires : tie.Need-put-decimal-requires
-put-decimal-requires c κs = search needs
-
-same-length : tie.Need-same-length
-same-length c = search needs
-
 returns : tie.Need-returns
 returns c =
-    let s = c .before .before .before .before .before .before .before .before .before in
-    put-behind (s .args .out .now) (s .args .at) (omega arith) (9 ∷ []) (c .before .before .before .before .before .before .put-byte .ensures) (c .before .before .put-decimal .ensures)
+    let digits = c .before .before in
+    let tab = digits .before .before .before .before in
+    let s = tab .before .before .before in
+    let h : s .args .at ≤ length (s .args .out .now) = omega arith in
+    put-behind _ _ h (9 ∷ []) (tab .put-byte .ensures) (digits .put-decimal .ensures)
 
 pub put-number-spec : {M : Type 1} → statement M
-put-number-spec = tie.close (tie.spec put-byte-requires put-decimal-requires same-length returns)
+put-number-spec = tie.close (tie.spec (search needs) (search needs) (search needs) returns)

@@ -4,10 +4,10 @@ use Prim.Native.Nat.{ℕ, _*_}
 use lib.IntN.{ℤ}
 use lib.Signed.{ltZ}
 use mir.Syntax.{Width, w64}
-use Rattle.whole.specs.Machine.{MExpr, rd, _⊕_, _⊗_, In, in-abs, safe-step, reads}
-use Rattle.whole.specs.Range.{Each, nil, _&_}
+use Rattle.integers.specs.Machine.{MExpr, rd, _⊕_, _⊗_, In, in-abs, safe-step, reads}
+use Rattle.integers.specs.Range.{Each, nil, _&_}
 use Rattle.rules.specs.Sheet.{farthest}
-use Rattle.visits.specs.Small.{widest}
+use Rattle.limits.specs.Small.{widest}
 use Rattle.reach.proofs.farther.Statement.{statement}
 use Rattle.reach.proofs.farther.Tie as tie
 

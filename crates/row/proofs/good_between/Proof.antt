@@ -37,9 +37,6 @@ module _ (s : tie.Start) where
   parts : said ≡ frame && rest
   parts = between-parts ps (s .args .r) (s .args .first) (s .args .last) (s .pre .1 .0) (s .pre .1 .1)
 
-frame-good-requires : tie.Need-frame-good-requires
-frame-good-requires c κs = search needs
-
 returns : tie.Need-returns
 returns c =
     let s = c .before .before in
@@ -53,18 +50,6 @@ left c =
     let e : frame s ≡ true = sym (c .before .frame-good .ensures) ∙ not-false _ (c .if1 .left) in
     parts s ∙ (λ d. e d && rest s)
 
-add-if2 : tie.Need-add-if2
-add-if2 c = search needs
-
-point-at-requires : tie.Need-point-at-requires
-point-at-requires c κs = search needs
-
-point-at-requires-2 : tie.Need-point-at-requires-2
-point-at-requires-2 c κs = search needs
-
-leaf-good-requires : tie.Need-leaf-good-requires
-leaf-good-requires c κs = search needs
-
 returns-2 : tie.Need-returns-2
 returns-2 c =
     let k = c .before .before .before in
@@ -76,9 +61,6 @@ returns-2 c =
     ∙ (λ d. eqZ (s .args .r .split) noSplit && not (samePoint (a d) (b d)))
     ∙ sym (left (k .before) ∙ (λ d. cond (l d) (ofLeaf s) (ofMore s)))
 
-splits-inside-requires : tie.Need-splits-inside-requires
-splits-inside-requires c κs = search needs
-
 returns-3 : tie.Need-returns-3
 returns-3 c =
     let k = c .before in
@@ -88,14 +70,6 @@ returns-3 c =
 
 pub good-between-spec : {M : Type 1} → statement M
 good-between-spec =
-    tie.close
-    (tie.spec
-    frame-good-requires
-    returns
-    add-if2
-    point-at-requires
-    point-at-requires-2
-    leaf-good-requires
-    returns-2
-    splits-inside-requires
+    tie.close (tie.spec
+    (search needs) returns (search needs) (search needs) (search needs) (search needs) returns-2 (search needs)
     returns-3)

@@ -1,42 +1,43 @@
 -- `range_good` compares bits; equal bits are equal numbers.
 use mathlib.Core.Path.{_≡_, sym, _∙_}
-use mathlib.Core.Bool.{true, false, _&&_}
+use mathlib.Core.Bool.{_&&_}
 use native.Mathlib.Omega.{arith}
+use lib.Dec.{eqb}
 use lib.IntN.{pos}
 use mir.Syntax.{w64}
-use mir.Val.{SFits}
-use Rattle.whole.specs.Order.{eqZ}
-use Rattle.whole.specs.Machine.{eq-bits}
+use mir.Val.{SFits, ofZ}
+use Rattle.integers.specs.Order.{eqZ}
+use Rattle.integers.specs.Machine.{eq-bits}
 use borrow.Author.Tests.{eq-eqb, ne-eqb}
 use borrow.Author.Needs.{needs}
 use Rattle.row.proofs.range_good.Statement.{statement}
 use Rattle.row.proofs.range_good.Tie as tie
 
-cast-if1 : tie.Need-cast-if1
-cast-if1 c = search needs
+-- the two comparisons of bits, of the numbers that come in
+first-same : (s : tie.Start)
+    → eqb (ofZ w64 (s .args .r .first)) (s .args .first) ≡ eqZ (s .args .r .first) (pos (s .args .first))
+first-same s =
+    let f : SFits w64 (s .args .r .first) = search needs in eq-bits w64 f (record { sfits = omega (arith, s .pre) })
 
-cast-result : tie.Need-cast-result
-cast-result c = search needs
+last-same : (s : tie.Start)
+    → eqb (ofZ w64 (s .args .r .last)) (s .args .last) ≡ eqZ (s .args .r .last) (pos (s .args .last))
+last-same s =
+    let f : SFits w64 (s .args .r .last) = search needs in eq-bits w64 f (record { sfits = omega (arith, s .pre) })
+
+abbrev start : tie.After-struct-told2 → tie.Start
+start c = c .before .before .before .before .before
 
 returns : tie.Need-returns
 returns c =
-    let s = c .before .before .before .before .before in
-    let r = s .args .r in
-    let f-first : SFits w64 (r .first) = search needs in
-    let f-last : SFits w64 (r .last) = search needs in
-    let g-first : SFits w64 (pos (s .args .first)) = record { sfits = omega (arith, s .pre) } in
-    let g-last : SFits w64 (pos (s .args .last)) = record { sfits = omega (arith, s .pre) } in
-    let e : eqZ (r .first) (pos (s .args .first)) ≡ true = sym (eq-bits w64 f-first g-first) ∙ eq-eqb _ _ (c .before .before .if1 .taken) in
-    eq-bits w64 f-last g-last ∙ sym (λ d. e d && eqZ (r .last) (pos (s .args .last)))
+    let s = start c in
+    let e = sym (first-same s) ∙ eq-eqb _ _ (c .before .before .if1 .taken) in
+    last-same s ∙ sym (λ d. e d && eqZ (s .args .r .last) (pos (s .args .last)))
 
 returns-2 : tie.Need-returns-2
 returns-2 c =
     let s = c .before .before .before in
-    let r = s .args .r in
-    let f-first : SFits w64 (r .first) = search needs in
-    let g-first : SFits w64 (pos (s .args .first)) = record { sfits = omega (arith, s .pre) } in
-    let e : eqZ (r .first) (pos (s .args .first)) ≡ false = sym (eq-bits w64 f-first g-first) ∙ ne-eqb _ _ (c .if1 .left) in
-    ne-eqb _ _ (c .if1 .left) ∙ sym (λ d. e d && eqZ (r .last) (pos (s .args .last)))
+    let no = ne-eqb _ _ (c .if1 .left) in
+    no ∙ sym (λ d. (sym (first-same s) ∙ no) d && eqZ (s .args .r .last) (pos (s .args .last)))
 
 pub range-good-spec : {M : Type 1} → statement M
-range-good-spec = tie.close (tie.spec cast-if1 cast-result returns returns-2)
+range-good-spec = tie.close (tie.spec (search needs) (search needs) returns returns-2)

@@ -11,20 +11,18 @@ use borrow.Author.Needs.{needs}
 use Rattle.row.proofs.splits_inside.Statement.{statement}
 use Rattle.row.proofs.splits_inside.Tie as tie
 
-cast-if1 : tie.Need-cast-if1
-cast-if1 c = search needs
-
-cast-result : tie.Need-cast-result
-cast-result c = search needs
+abbrev start : tie.After-struct-told2 → tie.Start
+start c = c .before .before .before .before .before
 
 returns : tie.Need-returns
 returns c =
-    let s = c .before .before .before .before .before in
+    let s = start c in
     let r = s .args .r in
     let f : SFits w64 (r .split) = search needs in
     let from : toZ w64 (s .args .first) ≡ pos (s .args .first) = toZ-pos w64 (omega (arith, s .pre)) in
     let to : toZ w64 (s .args .last) ≡ pos (s .args .last) = toZ-pos w64 (omega (arith, s .pre)) in
-    let h : ltZ (pos (s .args .first)) (r .split) ≡ true = sym (λ d. ltZ (from d) (toZ-ofZ f d)) ∙ c .before .before .if1 .taken in
+    let t = c .before .before .if1 .taken in
+    let h : ltZ (pos (s .args .first)) (r .split) ≡ true = sym (λ d. ltZ (from d) (toZ-ofZ f d)) ∙ t in
     (λ d. ltZ (toZ-ofZ f d) (to d)) ∙ sym (λ d. h d && ltZ (r .split) (pos (s .args .last)))
 
 returns-2 : tie.Need-returns-2
@@ -37,4 +35,4 @@ returns-2 c =
     c .if1 .left ∙ sym (λ d. h d && ltZ (r .split) (pos (s .args .last)))
 
 pub splits-inside-spec : {M : Type 1} → statement M
-splits-inside-spec = tie.close (tie.spec cast-if1 cast-result returns returns-2)
+splits-inside-spec = tie.close (tie.spec (search needs) (search needs) returns returns-2)

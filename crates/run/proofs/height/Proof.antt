@@ -5,12 +5,12 @@ use lib.Signed.{_≤ℤ_, _<ℤ_}
 use mir.Syntax.{w64}
 use mir.Val.{toZ, ofZ}
 use mir.Facts.{toZ-ofZ}
-use Rattle.whole.specs.Laws.{zarith, P-neg, N-neg}
-use Rattle.whole.specs.Check.{con, _:-_, :neg, _:=_, ring}
-use Rattle.whole.specs.Order.{lt-yes, lt-no}
-use Rattle.whole.specs.Range.{Abs≤, nil, _&_, abs-neg, fits}
-use Rattle.whole.specs.Machine.{MExpr, lit, rd, _⊖_, in-abs, safe-step, reads, nat-cast}
-use Rattle.visits.specs.Small.{widest}
+use Rattle.integers.specs.Laws.{zarith, P-neg, N-neg}
+use Rattle.integers.specs.Check.{con, _:-_, :neg, _:=_, ring}
+use Rattle.integers.specs.Order.{lt-yes, lt-no}
+use Rattle.integers.specs.Range.{Abs≤, nil, _&_, abs-neg, fits}
+use Rattle.integers.specs.Machine.{MExpr, lit, rd, _⊖_, in-abs, safe-step, reads, nat-cast}
+use Rattle.limits.specs.Small.{widest}
 use borrow.Author.Needs.{needs}
 use Rattle.run.proofs.height.Statement.{statement}
 use Rattle.run.proofs.height.Tie as tie
@@ -41,8 +41,5 @@ cast-result-2 c =
     let e = toZ-ofZ {w = w64} (c .before .fits .c) in
     nat-cast {w = w64} {w′ = w64} (c .before .fits .c) tt e (lt-no e refl (c .if1 .left))
 
-returns-2 : tie.Need-returns-2
-returns-2 c = search needs
-
 pub height-spec : {M : Type 1} → statement M
-height-spec = tie.close (tie.spec sub-result cast-result returns cast-result-2 returns-2)
+height-spec = tie.close (tie.spec sub-result cast-result returns cast-result-2 (λ c. search needs))

@@ -4,7 +4,7 @@ use mathlib.Core.Bool.{Bool, false, _||_}
 use mir.Syntax.{w64}
 use mir.Val.{SFits}
 use mir.Facts.{toZ-ofZ}
-use Rattle.whole.specs.Machine.{result}
+use Rattle.integers.specs.Machine.{result}
 use Rattle.rules.specs.Plane.{cAt, tAt}
 use Rattle.rules.specs.Questions.{outside, clearOf}
 use borrow.Author.Needs.{needs}
@@ -100,17 +100,11 @@ not-across : (c : tie.Else3) → across (start-3 (c .before)) ≡ false
 not-across c = sym (across-told (c .before)) ∙ c .if3 .left
 
 -- ---------------- the first that z is outside of decides
-outside-requires : tie.Need-outside-requires
-outside-requires c κs = search needs
-
 returns : tie.Need-returns
 unfolding clearOf
 returns c =
     let s = start (c .before) in
     let e = sym (beside-told (c .before)) ∙ c .if1 .taken in sym (λ d. e d || above s || across s || along s)
-
-outside-requires-2 : tie.Need-outside-requires-2
-outside-requires-2 c κs = search needs
 
 returns-2 : tie.Need-returns-2
 unfolding clearOf
@@ -119,12 +113,6 @@ returns-2 c =
     let e = sym (above-told (c .before)) ∙ c .if2 .taken in
     sym (λ d. not-beside (once-1 (c .before)) d || e d || across s || along s)
 
-c-at-requires : tie.Need-c-at-requires
-c-at-requires c κs = search needs
-
-outside-requires-3 : tie.Need-outside-requires-3
-outside-requires-3 c κs = search needs
-
 returns-3 : tie.Need-returns-3
 unfolding clearOf
 returns-3 c =
@@ -132,12 +120,6 @@ returns-3 c =
     let s = start-2 (b .before) in
     let e = sym (across-told (c .before)) ∙ c .if3 .taken in
     sym (λ d. not-beside (once-1 (b .before)) d || not-above b d || e d || along s)
-
-t-at-requires : tie.Need-t-at-requires
-t-at-requires c κs = search needs
-
-outside-requires-4 : tie.Need-outside-requires-4
-outside-requires-4 c κs = search needs
 
 returns-4 : tie.Need-returns-4
 unfolding clearOf
@@ -149,15 +131,6 @@ returns-4 c =
 
 pub clear-along-spec : {M : Type 1} → statement M
 clear-along-spec =
-    tie.close
-    (tie.spec
-    outside-requires
-    returns
-    outside-requires-2
-    returns-2
-    c-at-requires
-    outside-requires-3
-    returns-3
-    t-at-requires
-    outside-requires-4
-    returns-4)
+    tie.close (tie.spec
+    (search needs) returns (search needs) returns-2 (search needs) (search needs) returns-3
+    (λ c κs. search needs) (search needs) returns-4)

@@ -1,14 +1,11 @@
 -- `clear_of` asks along the direction of the node.
 use mathlib.Core.Path.{sym, _∙_, subst}
 use Rattle.rules.specs.Questions.{clearOf}
-use Rattle.visits.specs.Small.{OnSheet, Small}
-use Rattle.visits.proofs.Sizes.{direction-small}
+use Rattle.limits.specs.Small.{OnSheet, Small}
+use Rattle.limits.proofs.Sizes.{direction-small}
 use borrow.Author.Needs.{needs}
 use Rattle.sides.proofs.clear_of.Statement.{statement}
 use Rattle.sides.proofs.clear_of.Tie as tie
-
-direction-requires : tie.Need-direction-requires
-direction-requires c κs = search needs
 
 clear-along-requires : tie.Need-clear-along-requires
 clear-along-requires c κs =
@@ -21,4 +18,4 @@ returns c =
     c .clear-along .ensures ∙ (λ d. clearOf (a .r) (a .a) (c .before .direction .ensures d) (a .z))
 
 pub clear-of-spec : {M : Type 1} → statement M
-clear-of-spec = tie.close (tie.spec direction-requires clear-along-requires returns)
+clear-of-spec = tie.close (tie.spec (search needs) clear-along-requires returns)

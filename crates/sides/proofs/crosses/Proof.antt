@@ -4,10 +4,10 @@ use mathlib.Core.Bool.{Bool, true, false, _&&_, _||_, or-false, true≢false}
 use mathlib.Core.Logic.{_⊎_, inl, inr, ⊎-elim}
 use lib.IntN.{pos}
 use lib.Signed.{leZ, ltZ, _≤ℤ_}
-use Rattle.whole.specs.Order.{≤ℤ-trans, <ℤ-weaken, lt-yes, lt-no, lt-false, le-yes}
+use Rattle.integers.specs.Order.{≤ℤ-trans, <ℤ-weaken, lt-yes, lt-no, lt-false, le-yes}
 use Rattle.rules.specs.declared.Point.{Point}
 use Rattle.rules.specs.Plain.{lowHigh, sideOf, crosses}
-use Rattle.visits.specs.Small.{OnSheet}
+use Rattle.limits.specs.Small.{OnSheet}
 use Rattle.line.proofs.Stored.{stored}
 use Rattle.sides.proofs.crosses.Statement.{statement}
 use Rattle.sides.proofs.crosses.Tie as tie

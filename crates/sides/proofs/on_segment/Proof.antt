@@ -1,18 +1,17 @@
 -- `on_segment` asks both ranges, then c.
-use mathlib.Core.Path.{_≡_, sym, _∙_, subst}
+use mathlib.Core.Path.{_≡_, sym, _∙_}
 use mathlib.Core.Bool.{Bool, _&&_}
 use lib.IntN.{pos}
 use mir.Syntax.{w64}
 use mir.Facts.{sfits-lit}
 use borrow.Author.Tests.{not-true, not-false}
-use Rattle.whole.specs.Order.{eqZ}
-use Rattle.whole.specs.Machine.{eq-bits}
+use Rattle.integers.specs.Order.{eqZ}
+use Rattle.integers.specs.Machine.{eq-bits}
 use Rattle.rules.specs.Plane.{step, cAt}
 use Rattle.rules.specs.Plain.{rangeHolds, onSegment}
-use Rattle.visits.specs.Small.{Small}
 use borrow.Author.Needs.{needs}
 use Rattle.line.proofs.Stored.{stored}
-use Rattle.visits.proofs.Sizes.{step-small}
+use Rattle.line.proofs.Smalls.{stepped}
 use Rattle.sides.proofs.on_segment.Statement.{statement}
 use Rattle.sides.proofs.on_segment.Tie as tie
 
@@ -48,17 +47,11 @@ level-told c =
     c .range-holds2 .ensures
     ∙ (λ d. rangeHolds (stored (p .1 .y-in) tt d) (stored (p .2 .y-in) tt d) (stored (p .0 .y-in) tt d))
 
-range-holds-requires : tie.Need-range-holds-requires
-range-holds-requires c κs = search needs
-
 returns : tie.Need-returns
 unfolding onSegment
 returns c =
     let s = start (c .before) in
     let e = sym (beside-told (c .before)) ∙ not-true _ (c .if1 .taken) in sym (λ d. e d && level s && straight s)
-
-range-holds-requires-2 : tie.Need-range-holds-requires-2
-range-holds-requires-2 c κs = search needs
 
 returns-2 : tie.Need-returns-2
 unfolding onSegment
@@ -68,13 +61,10 @@ returns-2 c =
     let f = sym (level-told (c .before)) ∙ not-true _ (c .if2 .taken) in
     sym (λ d. e d && f d && straight (start (b .before)))
 
-step-requires : tie.Need-step-requires
-step-requires c κs = search needs
-
 c-at-requires : tie.Need-c-at-requires
 c-at-requires c κs =
     let p = start-2 (c .before .before) .pre in
-    (p .1, subst Small (sym (c .step .ensures)) (step-small (p .1) (p .2)), p .0)
+    (p .1, stepped (p .1) (p .2) (c .step .ensures), p .0)
 
 returns-3 : tie.Need-returns-3
 unfolding onSegment
@@ -92,12 +82,4 @@ returns-3 c =
 
 pub on-segment-spec : {M : Type 1} → statement M
 on-segment-spec =
-    tie.close
-    (tie.spec
-    range-holds-requires
-    returns
-    range-holds-requires-2
-    returns-2
-    step-requires
-    c-at-requires
-    returns-3)
+    tie.close (tie.spec (search needs) returns (search needs) returns-2 (search needs) c-at-requires returns-3)

@@ -8,9 +8,6 @@ use borrow.Author.Needs.{needs}
 use Rattle.sides.proofs.range_holds.Statement.{statement}
 use Rattle.sides.proofs.range_holds.Tie as tie
 
-holds-requires : tie.Need-holds-requires
-holds-requires c κs = search needs
-
 returns : tie.Need-returns
 returns c =
     let s = c .before .before in
@@ -18,9 +15,6 @@ returns c =
     let b = toZ-ofZ {w = w64} (s .fits .b) in
     let h : ltZ (s .args .a) (s .args .b) ≡ true = simp (a, b) at (c .before .if1 .taken) in
     simp (c .holds .ensures, a, b, toZ-ofZ {w = w64} (s .fits .v), h)
-
-holds-requires-2 : tie.Need-holds-requires-2
-holds-requires-2 c κs = search needs
 
 returns-2 : tie.Need-returns-2
 returns-2 c =
@@ -31,4 +25,4 @@ returns-2 c =
     simp (c .holds2 .ensures, a, b, toZ-ofZ {w = w64} (s .fits .v), h)
 
 pub range-holds-spec : {M : Type 1} → statement M
-range-holds-spec = tie.close (tie.spec holds-requires returns holds-requires-2 returns-2)
+range-holds-spec = tie.close (tie.spec (search needs) returns (search needs) returns-2)

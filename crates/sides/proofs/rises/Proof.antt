@@ -5,23 +5,17 @@ use lib.IntN.{pos}
 use lib.Signed.{ltZ}
 use mir.Syntax.{w64}
 use borrow.Author.Tests.{not-true, not-false}
-use Rattle.whole.specs.Machine.{result}
+use Rattle.integers.specs.Machine.{result}
 use Rattle.rules.specs.Plain.{sideOf}
 use borrow.Author.Needs.{needs}
 use Rattle.sides.proofs.rises.Statement.{statement}
 use Rattle.sides.proofs.rises.Tie as tie
-
-low-high-requires : tie.Need-low-high-requires
-low-high-requires c κs = search needs
 
 returns : tie.Need-returns
 returns c =
     let s = c .before .before in
     let e = sym (c .before .low-high .ensures) ∙ not-true _ (c .if1 .taken) in
     sym (λ d. e d && ltZ (pos 0) (sideOf (s .args .z) (s .args .l) (s .args .h)))
-
-side-of-requires : tie.Need-side-of-requires
-side-of-requires c κs = search needs
 
 returns-2 : tie.Need-returns-2
 returns-2 c =
@@ -31,4 +25,4 @@ returns-2 c =
     (λ d. ltZ (pos 0) (side d)) ∙ sym (λ d. e d && ltZ (pos 0) (sideOf (s .args .z) (s .args .l) (s .args .h)))
 
 pub rises-spec : {M : Type 1} → statement M
-rises-spec = tie.close (tie.spec low-high-requires returns side-of-requires returns-2)
+rises-spec = tie.close (tie.spec (search needs) returns (search needs) returns-2)

@@ -6,30 +6,16 @@ use native.Mathlib.Omega.{arith}
 use lib.ListN.{length, drop}
 use borrow.Author.Needs.{needs}
 use Rattle.words.specs.Fields.{fields}
-use Rattle.words.proofs.Fields.{count-tab, count-byte, at-end}
+use Rattle.words.proofs.Fields.{at-end, count-tab, count-byte}
 use Rattle.words.proofs.field_count.Statement.{statement}
 use Rattle.words.proofs.field_count.Tie as tie
 
 abbrev Inv-loop : tie.InvT-loop
-Inv-loop text tabs₀ i₀ tabs i = (i ≤ length text) × (tabs ≤ i) × (length (fields text) ≡ tabs + length (fields (drop i text)))
+Inv-loop text tabs₀ i₀ tabs i =
+    (i ≤ length text) × (tabs ≤ i) × (length (fields text) ≡ tabs + length (fields (drop i text)))
 
 abbrev μ-loop : tie.MeasureT-loop
 μ-loop text tabs₀ i₀ tabs i = length text - i
-
-loop-holds : tie.Need-loop-holds Inv-loop μ-loop
-loop-holds c = search needs
-
-shared-slice-read-if1 : tie.Need-shared-slice-read-if1 Inv-loop μ-loop
-shared-slice-read-if1 c = search needs
-
-add-tabs : tie.Need-add-tabs Inv-loop μ-loop
-add-tabs c = search needs
-
-add-i : tie.Need-add-i Inv-loop μ-loop
-add-i c = search needs
-
-loop-less : tie.Need-loop-less Inv-loop μ-loop
-loop-less c = search needs
 
 loop-again : tie.Need-loop-again Inv-loop μ-loop
 loop-again c =
@@ -39,28 +25,17 @@ loop-again c =
     let i = at .loop .i in
     let more = in-loop .loop-test .taken in
     let now = at .loop .inv in
-    ⊎-elim (λ w. let tab = count-tab text i more (w .0 .taken) in omega arith) (λ w. let byte = count-byte text i more (w .0 .left) in omega arith) (c .if1 .came)
-
-add-result : tie.Need-add-result Inv-loop μ-loop
-add-result c = search needs
+    ⊎-elim (λ w. let tab = count-tab text i more (w .0 .taken) in omega arith)
+    (λ w. let byte = count-byte text i more (w .0 .left) in omega arith) (c .if1 .came)
 
 returns : tie.Need-returns Inv-loop μ-loop
 returns c =
     let at = c .before in
-    let now = at .loop .inv .2 in
-    sym (now ∙ (λ d. at .loop .tabs + length (at-end (at .before .args .text .now) (at .loop .i) (c .loop-test .left) d)))
+    let one = at-end (at .before .args .text .now) (at .loop .i) (c .loop-test .left) in
+    sym (at .loop .inv .2 ∙ (λ d. at .loop .tabs + length (one d)))
 
 pub field-count-spec : {M : Type 1} → statement M
 field-count-spec =
-    tie.close
-    (tie.spec
-    Inv-loop
-    μ-loop
-    loop-holds
-    shared-slice-read-if1
-    add-tabs
-    add-i
-    loop-less
-    loop-again
-    add-result
-    returns)
+    tie.close (tie.spec
+    Inv-loop μ-loop (search needs) (search needs) (search needs) (search needs) (search needs) loop-again
+    (search needs) returns)

@@ -5,25 +5,23 @@ use Prim.Native.Nat.{ℕ, _*_, _^_, _<_}
 use lib.IntN.{ℤ, _+ℤ_, _-ℤ_, _*ℤ_}
 use lib.Signed.{mag, ltZ}
 use mir.Syntax.{w64}
-use mir.Val.{SFits, toZ, ofZ}
+use mir.Val.{SFits}
 use mir.Facts.{toZ-ofZ}
-use Rattle.whole.specs.Laws.{cond-ind}
-use Rattle.whole.specs.Check.{_:+_, _:*_, _:-_}
-use Rattle.whole.specs.Machine.{MExpr, rd, _⊖_, _⊗_, in-abs, safe-step, reads, result}
-use Rattle.whole.specs.Order.{minZ, maxZ}
-use Rattle.whole.specs.Range.{Abs≤, abs-at, fits-of, nil, _&_, within}
+use Rattle.integers.specs.Laws.{cond-ind}
+use Rattle.integers.specs.Check.{_:+_, _:*_, _:-_}
+use Rattle.integers.specs.Machine.{MExpr, rd, _⊖_, _⊗_, in-abs, safe-step, reads, result}
+use Rattle.integers.specs.Order.{minZ, maxZ}
+use Rattle.integers.specs.Range.{Abs≤, abs-at, fits-of, nil, _&_, within}
 use Rattle.rules.specs.declared.Point.{Point}
 use Rattle.rules.specs.declared.Row.{Row}
+use Rattle.rules.specs.Sheet.{limit}
 use Rattle.rules.specs.Plane.{tAt}
 use Rattle.rules.specs.Questions.{beyondCorners}
+use Rattle.apart.proofs.Stored.{back}
 use Rattle.apart.proofs.Corners.{west, east, south, north, greatest, least, by-parts}
 use borrow.Author.Needs.{needs}
 use Rattle.apart.proofs.strips.beyond.Statement.{statement}
 use Rattle.apart.proofs.strips.beyond.Tie as tie
-
--- what is stored in 64 bits, read back
-abbrev back : ℤ → ℤ
-back z = toZ w64 (ofZ w64 z)
 
 -- ---------------- the parts
 -- their steps, each stored in 64 bits
@@ -37,60 +35,37 @@ part v e s = rd w64 (v ⊗ difference e s)
 abbrev held : ℤ → ℤ → ℤ → ℤ
 held v e s = back (back v *ℤ back (back e -ℤ back s))
 
-sub-fits : {e s : ℤ} → Abs≤ 16383 e → Abs≤ 16383 s → SFits w64 (back e -ℤ back s)
+sub-fits : {e s : ℤ} → Abs≤ limit e → Abs≤ limit s → SFits w64 (back e -ℤ back s)
 sub-fits k l = safe-step 2 difference 0 (in-abs k tt & in-abs l tt & nil) tt
 
-mul-fits : {v e s : ℤ} → Abs≤ 32766 v → Abs≤ 16383 e → Abs≤ 16383 s → SFits w64 (back v *ℤ back (back e -ℤ back s))
+mul-fits : {v e s : ℤ} → Abs≤ (2 * limit) v → Abs≤ limit e → Abs≤ limit s
+    → SFits w64 (back v *ℤ back (back e -ℤ back s))
 mul-fits h k l = safe-step 3 part 1 (in-abs h tt & in-abs k tt & in-abs l tt & nil) tt
 
 -- the places after each part, and where they started
 abbrev after-west : tie.After-struct-told3 → tie.Start
-after-west c = c .before .before .before .before .before .before
+after-west c = let k = c .before .before .before in k .before .before .before
 
 abbrev after-east : tie.After-struct-told6 → tie.Start
-after-east c = after-west (c .before .before .before .before .before .before)
+after-east c = let k = c .before .before .before in after-west (k .before .before .before)
 
 abbrev after-south : tie.After-struct-told9 → tie.Start
-after-south c = after-east (c .before .before .before .before .before .before)
+after-south c = let k = c .before .before .before in after-east (k .before .before .before)
 
 abbrev after-north : tie.After-struct-told12 → tie.Start
-after-north c = after-south (c .before .before .before .before .before .before)
-
-sub-west : tie.Need-sub-west
-sub-west c = search (sub-fits, c .before .before .before .before .pre)
-
-mul-west : tie.Need-mul-west
-mul-west c = search (mul-fits, after-west c .pre)
-
-sub-east : tie.Need-sub-east
-sub-east c = search (sub-fits, after-west (c .before .before .before .before) .pre)
-
-mul-east : tie.Need-mul-east
-mul-east c = search (mul-fits, after-east c .pre)
-
-sub-south : tie.Need-sub-south
-sub-south c = search (sub-fits, after-east (c .before .before .before .before) .pre)
-
-mul-south : tie.Need-mul-south
-mul-south c = search (mul-fits, after-south c .pre)
-
-sub-north : tie.Need-sub-north
-sub-north c = search (sub-fits, after-south (c .before .before .before .before) .pre)
-
-mul-north : tie.Need-mul-north
-mul-north c = search (mul-fits, after-north c .pre)
+after-north c = let k = c .before .before .before in after-south (k .before .before .before)
 
 -- ---------------- the sums
 -- the size of a part
 abbrev largest : ℕ
-largest = 32766 * 32766
+largest = 2 * limit * (2 * limit)
 
 -- a, which the machine has, is x, which is no larger than a part
 record Is (a x : ℤ) : Type 0 where
   same : a ≡ x
   small : Abs≤ largest x
 
-is-part : {v e s : ℤ} → Abs≤ 32766 v → Abs≤ 16383 e → Abs≤ 16383 s → Is (held v e s) (v *ℤ (e -ℤ s))
+is-part : {v e s : ℤ} → Abs≤ (2 * limit) v → Abs≤ limit e → Abs≤ limit s → Is (held v e s) (v *ℤ (e -ℤ s))
 is-part h k l = record {
   same = reads 3 part (in-abs h tt & in-abs k tt & in-abs l tt & nil) tt;
   small = within 3 (λ v e s. v :* (e :- s)) (h & k & l & nil);
@@ -126,14 +101,14 @@ adds h k =
 
 -- f of what comes in
 abbrev at : (Point → Point → Row → ℤ) → tie.Start → ℤ
-at f c = f (c .args .s) (c .args .v) (c .args .q)
+at f c = f (c .args .s) (c .args .v) (c .args .other)
 
 -- what two calls picked of the parts in x and of those in y
 adds-picked : (c : tie.Start) (m : ℤ → ℤ → ℤ) {r r′ : ℤ} → Picks m
     → mag r < 2 ^ 63
-    → let a = c .args in r ≡ m (held (a .v .x) (a .q .xmin) (a .s .x)) (held (a .v .x) (a .q .xmax) (a .s .x))
+    → let a = c .args in r ≡ m (held (a .v .x) (a .other .xmin) (a .s .x)) (held (a .v .x) (a .other .xmax) (a .s .x))
     → mag r′ < 2 ^ 63
-    → r′ ≡ m (held (a .v .y) (a .q .ymin) (a .s .y)) (held (a .v .y) (a .q .ymax) (a .s .y))
+    → r′ ≡ m (held (a .v .y) (a .other .ymin) (a .s .y)) (held (a .v .y) (a .other .ymax) (a .s .y))
     → Adds (back r) (back r′) (m (at west c) (at east c) +ℤ m (at south c) (at north c))
 adds-picked c m p f e f′ e′ =
     let s = c .pre .0 in
@@ -141,12 +116,6 @@ adds-picked c m p f e f′ e′ =
     let q = c .pre .2 in
     adds (is-picked m p (is-part (v .x-in) (q .xmin-in) (s .x-in)) (is-part (v .x-in) (q .xmax-in) (s .x-in)) f e)
     (is-picked m p (is-part (v .y-in) (q .ymin-in) (s .y-in)) (is-part (v .y-in) (q .ymax-in) (s .y-in)) f′ e′)
-
-greater-requires : tie.Need-greater-requires
-greater-requires c κs = search needs
-
-greater-requires-2 : tie.Need-greater-requires-2
-greater-requires-2 c κs = search needs
 
 abbrev start : tie.After-greater2 → tie.Start
 start c = after-north (c .before .before)
@@ -157,37 +126,22 @@ adds-greatest c =
     adds-picked (start c) maxZ max-picks (c .before .greater .ok) (c .before .greater .ensures)
     (c .greater2 .ok) (c .greater2 .ensures)
 
-add-if1 : tie.Need-add-if1
-add-if1 c = adds-greatest c .fit
-
 -- ---------------- the tests
 -- what the first says, b, and then the second
 both : (c : tie.After-greater2) {b : Bool}
     → let a = start c .args in
     ltZ (back (back (c .before .greater .result) +ℤ back (c .greater2 .result))) (back (a .lo)) ≡ b
-    → (b || ltZ (a .hi) (at least (start c))) ≡ beyondCorners (tAt (a .s) (a .v)) (a .lo) (a .hi) (a .q)
+    → (b || ltZ (a .hi) (at least (start c))) ≡ beyondCorners (tAt (a .s) (a .v)) (a .lo) (a .hi) (a .other)
 both c t =
     let a = start c .args in
     let e = sym (λ d. ltZ (adds-greatest c .is d) (toZ-ofZ (start c .fits .lo) d)) ∙ t in
-    sym (λ d. e d || ltZ (a .hi) (at least (start c))) ∙ by-parts (a .s) (a .v) (a .q) (a .lo) (a .hi)
-
-returns : tie.Need-returns
-returns c = both (c .before) (c .if1 .taken)
-
-lesser-requires : tie.Need-lesser-requires
-lesser-requires c κs = search needs
-
-lesser-requires-2 : tie.Need-lesser-requires-2
-lesser-requires-2 c κs = search needs
+    sym (λ d. e d || ltZ (a .hi) (at least (start c))) ∙ by-parts (a .s) (a .v) (a .other) (a .lo) (a .hi)
 
 adds-least : (c : tie.After-lesser2)
     → Adds (back (c .before .lesser .result)) (back (c .lesser2 .result)) (at least (start (c .before .before .before)))
 adds-least c =
     adds-picked (start (c .before .before .before)) minZ min-picks (c .before .lesser .ok) (c .before .lesser .ensures)
     (c .lesser2 .ok) (c .lesser2 .ensures)
-
-add-result : tie.Need-add-result
-add-result c = adds-least c .fit
 
 returns-2 : tie.Need-returns-2
 returns-2 c =
@@ -197,20 +151,13 @@ returns-2 c =
 pub beyond-spec : {M : Type 1} → statement M
 beyond-spec =
     tie.close
-    (tie.spec
-    sub-west
-    mul-west
-    sub-east
-    mul-east
-    sub-south
-    mul-south
-    sub-north
-    mul-north
-    greater-requires
-    greater-requires-2
-    add-if1
-    returns
-    lesser-requires
-    lesser-requires-2
-    add-result
-    returns-2)
+    (tie.spec (λ c. let k = c .before .before in search (sub-fits, k .before .before .pre))
+    (λ c. search (mul-fits, after-west c .pre))
+    (λ c. let k = c .before .before in search (sub-fits, after-west (k .before .before) .pre))
+    (λ c. search (mul-fits, after-east c .pre))
+    (λ c. let k = c .before .before in search (sub-fits, after-east (k .before .before) .pre))
+    (λ c. search (mul-fits, after-south c .pre))
+    (λ c. let k = c .before .before in search (sub-fits, after-south (k .before .before) .pre))
+    (λ c. search (mul-fits, after-north c .pre))
+    (λ c κs. search needs) (λ c κs. search needs) (λ c. adds-greatest c .fit) (λ c. both (c .before) (c .if1 .taken))
+    (λ c κs. search needs) (λ c κs. search needs) (λ c. adds-least c .fit) returns-2)

@@ -1,15 +1,13 @@
 -- `strip_apart` asks t along u turned, which is c, then t along u.
 use mathlib.Core.Path.{_≡_, sym, _∙_, subst}
-use mathlib.Core.Bool.{_||_}
-use mir.Syntax.{w64}
-use mir.Val.{SFits}
-use mir.Facts.{toZ-ofZ}
-use Rattle.whole.specs.Range.{neg-bound}
+use mathlib.Core.Bool.{Bool, false, _||_}
+use Rattle.integers.specs.Range.{neg-bound}
 use Rattle.rules.specs.declared.Point.{Point}
-use Rattle.rules.specs.Plane.{cAt, tAt}
-use Rattle.rules.specs.Questions.{beyondCorners}
-use Rattle.visits.specs.Small.{Small}
+use Rattle.rules.specs.Plane.{tAt}
+use Rattle.rules.specs.Questions.{beyondCorners, stripApart}
+use Rattle.limits.specs.Small.{Small}
 use Rattle.apart.specs.Turned.{turned}
+use Rattle.apart.proofs.Stored.{back, both-back}
 use Rattle.apart.proofs.Corners.{beyond-turned}
 use borrow.Author.Needs.{needs}
 use Rattle.apart.proofs.strips.strip_apart.Statement.{statement}
@@ -18,46 +16,46 @@ use Rattle.apart.proofs.strips.strip_apart.Tie as tie
 turned-small : {u : Point} → Small u → Small (turned u)
 turned-small {u} h = record { x-in = record { abs = neg-bound (u .y) (h .y-in .abs) }; y-in = h .x-in }
 
-turned-requires : tie.Need-turned-requires
-turned-requires c κs = search needs
+-- where it started, and the answer by what the first call says
+abbrev start : tie.After-beyond → tie.Start
+start c = let t = c .before .before .before in t .before
+
+abbrev byFirst : tie.Start → Bool → Bool
+byFirst s b = let a = s .args in b || beyondCorners (tAt (a .s) (a .u)) (a .row .tmin) (a .row .tmax) (a .other)
 
 beyond-requires : tie.Need-beyond-requires
 beyond-requires c κs =
     let t = c .before .before in
     let small = subst Small (sym (t .turned .ensures)) (turned-small (t .before .pre .1)) in search small
 
--- what the first call says of c
-first : (c : tie.After-beyond)
-    → let a = c .before .before .before .before .args in
-    c .beyond .result ≡ beyondCorners (cAt (a .s) (a .u)) (a .r .cmin) (a .r .cmax) (a .q)
-first c =
-    let a = c .before .before .before .before .args in
-    let t = c .before .before .before .turned in
-    let lo : SFits w64 (a .r .cmin) = search needs in
-    let hi : SFits w64 (a .r .cmax) = search needs in
+-- the first call says what c does
+first : (c : tie.After-beyond) {b : Bool} → c .beyond .result ≡ b
+    → let a = start c .args in byFirst (start c) b ≡ stripApart (a .row) (a .s) (a .u) (a .other)
+first c e =
+    let a = start c .args in
+    let v = c .before .before .before .turned in
+    let told =
     c .beyond .ensures
-    ∙ (λ i. beyondCorners (tAt (a .s) (t .ensures i)) (toZ-ofZ lo i) (toZ-ofZ hi i) (a .q))
-    ∙ sym (beyond-turned (a .s) (a .u) (a .r .cmin) (a .r .cmax) (a .q))
+    ∙ both-back (λ lo hi. beyondCorners (tAt (a .s) (v .result)) lo hi (a .other)) (search needs) (search needs)
+    ∙ (λ i. beyondCorners (tAt (a .s) (v .ensures i)) (a .row .cmin) (a .row .cmax) (a .other))
+    ∙ sym (beyond-turned (a .s) (a .u) (a .row .cmin) (a .row .cmax) (a .other))
+    in
+    λ i. byFirst (start c) ((sym e ∙ told) i)
 
-returns : tie.Need-returns
-returns c =
-    let a = c .before .before .before .before .before .args in
-    let e = sym (first (c .before)) ∙ c .if1 .taken in
-    sym (λ i. e i || beyondCorners (tAt (a .s) (a .u)) (a .r .tmin) (a .r .tmax) (a .q))
-
-beyond-requires-2 : tie.Need-beyond-requires-2
-beyond-requires-2 c κs = search needs
+-- and the second what t does
+second : (s : tie.Start) → let a = s .args in
+    beyondCorners (tAt (a .s) (a .u)) (back (a .row .tmin)) (back (a .row .tmax)) (a .other) ≡ byFirst s false
+second s =
+    let a = s .args in
+    both-back (λ lo hi. beyondCorners (tAt (a .s) (a .u)) lo hi (a .other)) (search needs) (search needs)
 
 returns-2 : tie.Need-returns-2
 returns-2 c =
-    let a = c .before .before .before .before .before .before .before .before .args in
-    let lo : SFits w64 (a .r .tmin) = search needs in
-    let hi : SFits w64 (a .r .tmax) = search needs in
-    let e = sym (first (c .before .before .before .before)) ∙ c .before .before .before .if1 .left in
-    c .beyond2 .ensures
-    ∙ (λ i. beyondCorners (tAt (a .s) (a .u)) (toZ-ofZ lo i) (toZ-ofZ hi i) (a .q))
-    ∙ sym (λ i. e i || beyondCorners (tAt (a .s) (a .u)) (a .r .tmin) (a .r .tmax) (a .q))
+    let f = c .before .before .before in
+    c .beyond2 .ensures ∙ second (start (f .before)) ∙ first (f .before) (f .if1 .left)
 
 pub strip-apart-spec : {M : Type 1} → statement M
 strip-apart-spec =
-    tie.close (tie.spec turned-requires beyond-requires returns beyond-requires-2 returns-2)
+    tie.close
+    (tie.spec (λ c κs. search needs) beyond-requires (λ c. first (c .before) (c .if1 .taken))
+    (λ c κs. search needs) returns-2)

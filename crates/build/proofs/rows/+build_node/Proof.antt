@@ -1,13 +1,12 @@
--- `build_node`: its own row at the front, the rows of the left half in a part of just their length, those of the right half in
--- what is left, and its box by the first row of each. The number of segments falls.
+-- `build_node`: its own row at the front, the rows of the left half in a part of just their length, those of the right
+-- half in what is left, and its box by the first row of each. The number of segments falls.
 use mathlib.Core.Path.{_≡_, refl, sym, _∙_}
-use mathlib.Core.List.{List, _++_}
+use mathlib.Core.List.{_++_}
 use Prim.Native.Nat.{ℕ, pred, _+_, _*_, _-_, _≤_, _<_}
 use native.Mathlib.Omega.{arith}
-use lib.IntN.{ℤ}
 use lib.ListN.{length, take, drop}
 use Rattle.rules.specs.Tree.{width, numbers, rowsOf, rowCount}
-use Rattle.built.proofs.Rows.{split-between, count-rows}
+use Rattle.table_truth.proofs.Rows.{split-between, count-rows}
 use Rattle.build.specs.Rows.{nodeRow, unboxed, joined}
 use Rattle.build.proofs.Node.{leaf-level, inner-level, first-row}
 use Rattle.build.proofs.Boxes.{joined-same}
@@ -15,194 +14,179 @@ use Rattle.build.proofs.Parts.{returned, three-parts, boxed-parts, row-
 use borrow.Author.Needs.{needs}
 use borrow.Fn.Kinds.{In}
 use borrow.Fn.PlainCycle.{Measures, is, falls, and}
-use Rattle.build.proofs.rows.build_node.Reads as build-node
-use Rattle.build.proofs.rows.build_node.Kinds as build-node-kinds
-use Rattle.build.proofs.rows.+build_node.Lts-build_node as build-node-lts
-use Rattle.build.proofs.rows.put_box.Reads as put-box-reads
-use Rattle.build.proofs.rows.put_leaf.Reads as put-leaf-reads
-use Rattle.build.proofs.rows.put_strip.Reads as put-strip-reads
+use Rattle.build.proofs.rows.build_node.Reads as node
+use Rattle.build.proofs.rows.build_node.Kinds as kinds
+use Rattle.build.proofs.rows.+build_node.Lts-build_node as lts
+use Rattle.build.proofs.rows.put_box.Reads as box
+use Rattle.build.proofs.rows.put_leaf.Reads as leaf
+use Rattle.build.proofs.rows.put_strip.Reads as strip
 use Rattle.build.proofs.rows.+build_node.{statement}
 use Rattle.build.proofs.rows.+build_node.Tie.{close}
 
-abbrev μ-build-node : Measures 2 build-node-kinds.ps ℕ
-μ-build-node κs a = a .1 .1 .0 - a .1 .0
+abbrev μ : Measures 2 kinds.ps ℕ
+μ κs a = a .1 .1 .0 - a .1 .0
 
-abbrev build-node-at : ℕ → In 2 build-node-kinds.ps
-build-node-at t = and 2 build-node-kinds.ps (is 2 build-node-kinds.ps μ-build-node t) build-node.Pre
+abbrev here : ℕ → In 2 kinds.ps
+here t = and 2 kinds.ps (is 2 kinds.ps μ t) node.Pre
 
-abbrev build-node-below : ℕ → In 2 build-node-kinds.ps
-build-node-below t = and 2 build-node-kinds.ps (falls 2 build-node-kinds.ps _<_ μ-build-node t) build-node.Pre
+abbrev below : ℕ → In 2 kinds.ps
+below t = and 2 kinds.ps (falls 2 kinds.ps _<_ μ t) node.Pre
 
 -- what is asked and learnt of the calls
-abbrev calls : ℕ → build-node-lts.Claims
-calls t = (
-  put-leaf-reads.Asked,
-  put-leaf-reads.Learnt,
-  put-strip-reads.Asked,
-  put-strip-reads.Learnt,
-  build-node-below t,
-  build-node.Post,
-  put-box-reads.Asked,
-  put-box-reads.Learnt,
-)
+abbrev calls : ℕ → lts.Claims
+calls t = (leaf.Asked, leaf.Learnt, strip.Asked, strip.Learnt, below t, node.Post, box.Asked, box.Learnt)
 
--- a node with an inner point splits there
-module _ (t : ℕ) (c : build-node-lts.After-table2 (calls t) (build-node-at t) build-node.Post) where
-  abbrev points : List ℤ
-  points = c .before .before .before .before .args .points .now
+module _ (t : ℕ) where
+  -- the places of the code: past the node's own row, past the left half's, past both
+  abbrev Begun : Type 0
+  Begun = lts.Start (calls t) (here t) node.Post
 
-  abbrev first : ℕ
-  first = c .before .before .before .before .args .first
+  abbrev Split : Type 0
+  Split = lts.After-table2 (calls t) (here t) node.Post
 
-  abbrev last : ℕ
-  last = c .before .before .before .before .args .last
+  abbrev LeftDone : Type 0
+  LeftDone = lts.After-table3 (calls t) (here t) node.Post
 
-  abbrev split : ℕ
-  split = c .before .put-strip .result
+  abbrev BothDone : Type 0
+  BothDone = lts.After-table4 (calls t) (here t) node.Post
 
-  between : (first < split) × (split < last)
-  between =
-      let b = split-between points first last (omega arith) in
+  abbrev begun : Split → Begun
+  begun c = c .before .before .before .before
+
+  abbrev split : LeftDone → Split
+  split c = c .before .before .before
+
+  abbrev leftDone : BothDone → LeftDone
+  leftDone c = c .before .before .before
+
+  -- a node with an inner point splits there
+  abbrev mid : Split → ℕ
+  mid c = c .before .put-strip .result
+
+  between : (c : Split) → (begun c .args .first < mid c) × (mid c < begun c .args .last)
+  between c =
+      let a = begun c .args in
+      let b = split-between (a .points .now) (a .first) (a .last) (omega arith) in
       let e = c .before .put-strip .ensures .0 in
       (omega arith, omega arith)
 
-build-node-add-if1 : (t : ℕ) → build-node-lts.Need-add-if1 (calls t) (build-node-at t) build-node.Post
-build-node-add-if1 t c = let p = c .pre .1 in omega arith
+  put-leaf-requires : lts.Need-put-leaf-requires (calls t) (here t) node.Post
+  put-leaf-requires c κs = let p = c .before .before .pre .1 in (p .0, omega arith, p .1, p .2, p .3, omega arith)
 
-build-node-put-leaf-requires : (t : ℕ) → build-node-lts.Need-put-leaf-requires (calls t) (build-node-at t) build-node.Post
-build-node-put-leaf-requires t c κs = let p = c .before .before .pre .1 in (p .0, omega arith, p .1, p .2, p .3, omega arith)
+  returns : lts.Need-returns (calls t) (here t) node.Post
+  returns c f h =
+      let l = c .before .before in
+      let s = l .before .before in
+      let a = s .args in
+      let p = s .pre .1 in
+      let leaf : a .last ≤ a .first + 1 = omega arith in
+      let n : width ≡ width * rowCount (a .last - a .first) = omega arith in
+      let rows = leaf-level (a .points .now) (a .first) (a .last) f leaf (omega arith) in
+      c .before .put-leaf .ensures ∙ (λ d. rows d ++ drop (n d) (a .table .now))
 
-build-node-same-length : (t : ℕ) → build-node-lts.Need-same-length (calls t) (build-node-at t) build-node.Post
-build-node-same-length t c = search needs
+  put-strip-requires : lts.Need-put-strip-requires (calls t) (here t) node.Post
+  put-strip-requires c κs = let p = c .before .before .pre .1 in (omega arith, p .1, p .2, p .3, omega arith)
 
-build-node-returns : (t : ℕ) → build-node-lts.Need-returns (calls t) (build-node-at t) build-node.Post
-build-node-returns t c f h =
-    let s = c .before .before .before .before in
-    let a = s .args in
-    let p = s .pre .1 in
-    let leaf : a .last ≤ a .first + 1 = omega arith in
-    let n : width ≡ width * rowCount (a .last - a .first) = omega arith in
-    let rows = leaf-level (a .points .now) (a .first) (a .last) f leaf (omega arith) in
-    c .before .put-leaf .ensures ∙ (λ d. rows d ++ drop (n d) (a .table .now))
+  sub-right : lts.Need-sub-right (calls t) (here t) node.Post
+  sub-right c = let b = between c in omega arith
 
-build-node-put-strip-requires : (t : ℕ) → build-node-lts.Need-put-strip-requires (calls t) (build-node-at t) build-node.Post
-build-node-put-strip-requires t c κs = let p = c .before .before .pre .1 in (omega arith, p .1, p .2, p .3, omega arith)
+  mul-right : lts.Need-mul-right (calls t) (here t) node.Post
+  mul-right c = let b = between c in let p = begun c .pre .1 in omega arith
 
-build-node-sub-right : (t : ℕ) → build-node-lts.Need-sub-right (calls t) (build-node-at t) build-node.Post
-build-node-sub-right t c = let b = between t c in omega arith
+  mul-right-2 : lts.Need-mul-right-2 (calls t) (here t) node.Post
+  mul-right-2 c = let b = between c in let p = begun c .pre .1 in omega arith
 
-build-node-mul-right : (t : ℕ) → build-node-lts.Need-mul-right (calls t) (build-node-at t) build-node.Post
-build-node-mul-right t c = let b = between t c in let p = c .before .before .before .before .pre .1 in omega arith
+  sub-build-node : lts.Need-sub-build-node (calls t) (here t) node.Post
+  sub-build-node c = row-room _ _ _ (between c .0) (between c .1)
 
-build-node-mul-right-2 : (t : ℕ) → build-node-lts.Need-mul-right-2 (calls t) (build-node-at t) build-node.Post
-build-node-mul-right-2 t c = let b = between t c in let p = c .before .before .before .before .pre .1 in omega arith
+  part-start : lts.Need-part-build-node-start (calls t) (here t) node.Post
+  part-start c = let b = between c in search needs
 
-build-node-sub-build-node : (t : ℕ) → build-node-lts.Need-sub-build-node (calls t) (build-node-at t) build-node.Post
-build-node-sub-build-node t c = row-room _ _ _ (between t c .0) (between t c .1)
+  part-end : lts.Need-part-build-node-end (calls t) (here t) node.Post
+  part-end c = let b = between c in search needs
 
-build-node-part-build-node-start : (t : ℕ) → build-node-lts.Need-part-build-node-start (calls t) (build-node-at t) build-node.Post
-build-node-part-build-node-start t c = let b = between t c in search needs
+  build-node-requires : lts.Need-build-node-requires (calls t) (here t) node.Post
+  build-node-requires c κs =
+      let k = c .before in
+      let b = between k in
+      let s = begun k in
+      let p = s .pre .1 in
+      (omega (arith, s .pre .0), (b .0, omega arith, omega arith, p .3, search needs))
 
-build-node-part-build-node-end : (t : ℕ) → build-node-lts.Need-part-build-node-end (calls t) (build-node-at t) build-node.Post
-build-node-part-build-node-end t c = let b = between t c in search needs
+  mul-build-node : lts.Need-mul-build-node (calls t) (here t) node.Post
+  mul-build-node c = let b = between (split c) in let p = begun (split c) .pre .1 in omega arith
 
-build-node-build-node-requires : (t : ℕ) → build-node-lts.Need-build-node-requires (calls t) (build-node-at t) build-node.Post
-build-node-build-node-requires t c κs =
-    let b = between t (c .before) in
-    let s = c .before .before .before .before .before in
-    let p = s .pre .1 in
-    (omega (arith, s .pre .0), (b .0, omega arith, omega arith, p .3, search needs))
+  sub-build-node-2 : lts.Need-sub-build-node-2 (calls t) (here t) node.Post
+  sub-build-node-2 c = let b = between (split c) in search needs
 
-build-node-mul-build-node : (t : ℕ) → build-node-lts.Need-mul-build-node (calls t) (build-node-at t) build-node.Post
-build-node-mul-build-node t c = let b = between t (c .before .before .before) in let p = c .before .before .before .before .before .before .before .pre .1 in omega arith
+  part-start-2 : lts.Need-part-build-node-start-2 (calls t) (here t) node.Post
+  part-start-2 c = let b = between (split c) in search needs
 
-build-node-sub-build-node-2 : (t : ℕ) → build-node-lts.Need-sub-build-node-2 (calls t) (build-node-at t) build-node.Post
-build-node-sub-build-node-2 t c = let b = between t (c .before .before .before) in search needs
+  build-node-requires-2 : lts.Need-build-node-requires-2 (calls t) (here t) node.Post
+  build-node-requires-2 c κs =
+      let k = split (c .before) in
+      let b = between k in
+      let s = begun k in
+      let p = s .pre .1 in
+      (omega (arith, s .pre .0), (omega arith, p .1, p .2, p .3, search needs))
 
-build-node-part-build-node-start-2 : (t : ℕ) → build-node-lts.Need-part-build-node-start-2 (calls t) (build-node-at t) build-node.Post
-build-node-part-build-node-start-2 t c = let b = between t (c .before .before .before) in search needs
+  put-box-requires : lts.Need-put-box-requires (calls t) (here t) node.Post
+  put-box-requires c κs =
+      let k = split (leftDone (c .before)) in
+      let b = between k in
+      let p = begun k .pre .1 in
+      (row-room _ _ _ (b .0) (b .1), search needs)
 
-build-node-part-build-node-end-2 : (t : ℕ) → build-node-lts.Need-part-build-node-end-2 (calls t) (build-node-at t) build-node.Post
-build-node-part-build-node-end-2 t c = search needs
-
-build-node-build-node-requires-2 : (t : ℕ) → build-node-lts.Need-build-node-requires-2 (calls t) (build-node-at t) build-node.Post
-build-node-build-node-requires-2 t c κs =
-    let b = between t (c .before .before .before .before) in
-    let s = c .before .before .before .before .before .before .before .before in
-    let p = s .pre .1 in
-    (omega (arith, s .pre .0), (omega arith, p .1, p .2, p .3, search needs))
-
-build-node-put-box-requires : (t : ℕ) → build-node-lts.Need-put-box-requires (calls t) (build-node-at t) build-node.Post
-build-node-put-box-requires t c κs =
-    let b = between t (c .before .before .before .before .before .before .before) in
-    let p = c .before .before .before .before .before .before .before .before .before .before .before .pre .1 in
-    (row-room _ _ _ (b .0) (b .1), search needs)
-
-build-node-same-length-2 : (t : ℕ) → build-node-lts.Need-same-length-2 (calls t) (build-node-at t) build-node.Post
-build-node-same-length-2 t c = search needs
-
-build-node-returns-2 : (t : ℕ) → build-node-lts.Need-returns-2 (calls t) (build-node-at t) build-node.Post
-build-node-returns-2 t c f h =
-    let e = c .before .before .before .before .before .before .before .before .before in
-    let a = e .before .before .before .before .args in
-    let p = e .before .before .before .before .pre .1 in
-    let ps = a .points .now in
-    let s = split t e in
-    let b = between t e in
-    let deep : 0 < pred f = omega arith in
-    let k = width * (2 * (s - a .first)) in
-    let m = width * rowCount (a .last - s) in
-    let L = rowsOf (pred f) ps (a .first) s in
-    let R = rowsOf (pred f) ps s (a .last) in
-    let rest = drop (k + m) (a .table .now) in
-    let t1 = e .before .put-strip .last .1 .1 .1 .0 in
-    let y1 = c .before .before .before .before .before .before .before .build-node .last .1 .1 .1 .0 in
-    let t2 = returned width (k - width) t1 y1 in
-    let y2 = c .before .before .before .before .build-node2 .last .1 .1 .1 .0 in
-    let t3 = returned k (length t2 - k) t2 y2 in
-    let row = nodeRow ps (a .first) (a .last) in
-    let leftRow = nodeRow ps (a .first) s in
-    let rightRow = nodeRow ps s (a .last) in
-    let many = count-rows (pred f) ps (a .first) s (b .0) (omega arith) in
-    let left : y1 ≡ L ++ drop (length L) (take (k - width) (drop width t1)) =
-    c .before .before .before .before .before .before .before .build-node .ensures (pred f) (omega arith) ∙ (λ d. L ++ drop (sym many d) (take (k - width) (drop width t1))) in
-    let right : y2 ≡ R ++ drop m (take (length t2 - k) (drop k t2)) = c .before .before .before .before .build-node2 .ensures (pred f) (omega arith) in
-    let room = row-room (a .first) s (a .last) (b .0) (b .1) in
-    let long = many ∙ sym (left-count (a .first) s (a .last) (b .0) (b .1)) in
-    let parts : t3 ≡ (numbers (unboxed row) ++ (L ++ R)) ++ rest =
-    three-parts (a .table .now) (numbers (unboxed row)) L R t1 y1 t2 y2 k m refl room long
-    (left-room (a .first) s (a .last) (b .0) (b .1) (length (a .table .now)) (p .4)) (e .before .put-strip .ensures .1) left refl right in
-    let box : joined row leftRow rightRow ≡ row = joined-same ps (a .first) s (a .last) (b .0) (b .1) _ _ _ in
-    let rows = inner-level ps (a .first) (a .last) f s (e .before .before .before .if1 .left) (omega arith) (e .before .put-strip .ensures .0) in
-    let n = all-count (a .first) s (a .last) (b .0) (b .1) in
-    c .before .put-box .ensures
-    ∙ boxed-parts t3 L R rest k row leftRow rightRow room long parts
-    (first-row ps (a .first) s (pred f) (R ++ rest) deep) (first-row ps s (a .last) (pred f) rest deep)
-    ∙ (λ d. (numbers (box d) ++ (L ++ R)) ++ rest)
-    ∙ (λ d. rows d ++ drop (n d) (a .table .now))
+  returns-2 : lts.Need-returns-2 (calls t) (here t) node.Post
+  returns-2 c f h =
+      let r = c .before .before .before in
+      let l = leftDone r in
+      let e = split l in
+      let a = begun e .args in
+      let p = begun e .pre .1 in
+      let ps = a .points .now in
+      let s = mid e in
+      let b = between e in
+      let deep : 0 < pred f = omega arith in
+      let k = width * (2 * (s - a .first)) in
+      let m = width * rowCount (a .last - s) in
+      let L = rowsOf (pred f) ps (a .first) s in
+      let R = rowsOf (pred f) ps s (a .last) in
+      let rest = drop (k + m) (a .table .now) in
+      let t1 = e .before .put-strip .last .1 .1 .1 .0 in
+      let y1 = l .before .build-node .last .1 .1 .1 .0 in
+      let t2 = returned width (k - width) t1 y1 in
+      let y2 = r .before .build-node2 .last .1 .1 .1 .0 in
+      let t3 = returned k (length t2 - k) t2 y2 in
+      let row = nodeRow ps (a .first) (a .last) in
+      let leftRow = nodeRow ps (a .first) s in
+      let rightRow = nodeRow ps s (a .last) in
+      let many = count-rows (pred f) ps (a .first) s (b .0) (omega arith) in
+      let left : y1 ≡ L ++ drop (length L) (take (k - width) (drop width t1)) =
+      l .before .build-node .ensures (pred f) (omega arith)
+      ∙ (λ d. L ++ drop (sym many d) (take (k - width) (drop width t1))) in
+      let right : y2 ≡ R ++ drop m (take (length t2 - k) (drop k t2)) =
+      r .before .build-node2 .ensures (pred f) (omega arith) in
+      let room = row-room (a .first) s (a .last) (b .0) (b .1) in
+      let long = many ∙ sym (left-count (a .first) s (a .last) (b .0) (b .1)) in
+      let fits = left-room (a .first) s (a .last) (b .0) (b .1) (length (a .table .now)) (p .4) in
+      let own = e .before .put-strip .ensures in
+      let parts : t3 ≡ (numbers (unboxed row) ++ (L ++ R)) ++ rest =
+      three-parts (a .table .now) (numbers (unboxed row)) L R t1 y1 t2 y2 k m refl room long fits (own .1) left refl
+      right in
+      let box : joined row leftRow rightRow ≡ row = joined-same ps (a .first) s (a .last) (b .0) (b .1) _ _ _ in
+      let inner = e .before .before .before .if1 .left in
+      let rows = inner-level ps (a .first) (a .last) f s inner (omega arith) (own .0) in
+      let n = all-count (a .first) s (a .last) (b .0) (b .1) in
+      c .before .put-box .ensures
+      ∙ boxed-parts t3 L R rest k row leftRow rightRow room long parts
+      (first-row ps (a .first) s (pred f) (R ++ rest) deep) (first-row ps s (a .last) (pred f) rest deep)
+      ∙ (λ d. (numbers (box d) ++ (L ++ R)) ++ rest)
+      ∙ (λ d. rows d ++ drop (n d) (a .table .now))
 
 pub +build-node-spec : {M : Type 1} → statement M
-+build-node-spec = close μ-build-node λ t. build-node-lts.spec
-    (calls t)
-    (build-node-at t)
-    build-node.Post
-    (build-node-add-if1 t)
-    (build-node-put-leaf-requires t)
-    (build-node-same-length t)
-    (build-node-returns t)
-    (build-node-put-strip-requires t)
-    (build-node-sub-right t)
-    (build-node-mul-right t)
-    (build-node-mul-right-2 t)
-    (build-node-sub-build-node t)
-    (build-node-part-build-node-start t)
-    (build-node-part-build-node-end t)
-    (build-node-build-node-requires t)
-    (build-node-mul-build-node t)
-    (build-node-sub-build-node-2 t)
-    (build-node-part-build-node-start-2 t)
-    (build-node-part-build-node-end-2 t)
-    (build-node-build-node-requires-2 t)
-    (build-node-put-box-requires t)
-    (build-node-same-length-2 t)
-    (build-node-returns-2 t)
++build-node-spec = close μ λ t. lts.spec (calls t) (here t) node.Post
+    (λ c. let p = c .pre .1 in omega arith) (put-leaf-requires t) (λ c. search needs) (returns t) (put-strip-requires t)
+    (sub-right t) (mul-right t) (mul-right-2 t) (sub-build-node t) (part-start t) (part-end t) (build-node-requires t)
+    (mul-build-node t) (sub-build-node-2 t) (part-start-2 t) (λ c. search needs) (build-node-requires-2 t)
+    (put-box-requires t) (λ c. search needs) (returns-2 t)

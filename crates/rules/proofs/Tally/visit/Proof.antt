@@ -4,9 +4,6 @@ use borrow.Author.Tests.{lt-ltb, le-ltb}
 use Rattle.rules.proofs.Tally.visit.Statement.{statement}
 use Rattle.rules.proofs.Tally.visit.Tie as tie
 
-add-t6 : tie.Need-add-t6
-add-t6 c = search needs
-
 returns : tie.Need-returns
 returns c = simp (lt-ltb _ _ (c .if1 .taken))
 
@@ -14,4 +11,5 @@ returns-2 : tie.Need-returns-2
 returns-2 c = simp (le-ltb _ _ (c .if1 .left))
 
 pub visit-spec : {M : Type 1} → statement M
-visit-spec = tie.close (tie.spec add-t6 returns returns-2)
+visit-spec =
+    tie.close (tie.spec (λ c. search needs) returns returns-2)

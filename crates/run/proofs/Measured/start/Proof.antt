@@ -3,12 +3,6 @@ use borrow.Author.Needs.{needs}
 use Rattle.run.proofs.Measured.start.Statement.{statement}
 use Rattle.run.proofs.Measured.start.Tie as tie
 
-of-requires : tie.Need-of-requires
-of-requires c κs = search needs
-
-of-requires-2 : tie.Need-of-requires-2
-of-requires-2 c κs = search needs
-
 returns : tie.Need-returns
 returns c =
     let e = c .before .of .ensures in
@@ -16,4 +10,4 @@ returns c =
     λ d. record { c = e d; t = f d; top = record { split = 0; height = 0 } }
 
 pub start-spec : {M : Type 1} → statement M
-start-spec = tie.close (tie.spec of-requires of-requires-2 returns)
+start-spec = tie.close (tie.spec (search needs) (search needs) returns)

@@ -1,0 +1,36 @@
+//! What a race comes to: times, their ratios, and the median.
+
+/// Nanoseconds of one run, median over the repetitions. The ratios are medians of the ratios within a repetition. What has not
+/// run is not a number.
+pub struct Times {
+    pub ours: f64,
+    pub hand: f64,
+    pub form: f64,
+    pub plain: f64,
+    pub ours_by_hand: f64,
+    pub ours_by_form: f64,
+    pub plain_by_ours: f64,
+}
+
+impl Times {
+    pub fn per(self, count: usize) -> Times {
+        let count = count as f64;
+        Times {
+            ours: self.ours / count,
+            hand: self.hand / count,
+            form: self.form / count,
+            plain: self.plain / count,
+            ..self
+        }
+    }
+}
+
+/// Not a number of no values.
+pub fn median(mut values: Vec<f64>) -> f64 {
+    values.sort_by(f64::total_cmp);
+    match values.len() {
+        0 => f64::NAN,
+        count if count % 2 == 1 => values[count / 2],
+        count => (values[count / 2 - 1] + values[count / 2]) / 2.0,
+    }
+}

@@ -1,0 +1,2 @@
+-- What the contracts of `answers` are said with.
+pub mod Asked

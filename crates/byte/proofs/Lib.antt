@@ -1,0 +1,2 @@
+-- What one byte comes to.
+pub mod Byte

@@ -1,0 +1,3 @@
+-- What the end of the input comes to, and a whole run.
+pub mod Finishes
+pub mod Runs

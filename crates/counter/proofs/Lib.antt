@@ -1,4 +1,0 @@
--- Bytes behind bytes, a whole run, and one outcome alone.
-pub mod Carries
-pub mod Program
-pub mod Unique

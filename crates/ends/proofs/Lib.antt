@@ -1,3 +1,0 @@
--- Laws of the number that a walk hands back.
-pub mod Ends
-pub mod Dues

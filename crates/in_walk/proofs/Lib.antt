@@ -1,2 +1,0 @@
--- Laws that the proofs of `in_walk` share.
-pub mod Visits

@@ -1,0 +1,32 @@
+-- `dot` is the formula, and each of its steps fits 64 bits.
+use mir.Syntax.{w64}
+use Rattle.integers.specs.Machine.{MExpr, rd, _⊕_, _⊗_, safe-step, reads}
+use Rattle.line.proofs.Smalls.{smalls}
+use Rattle.line.proofs.dot.Statement.{statement}
+use Rattle.line.proofs.dot.Tie as tie
+
+-- the steps of the code, each stored in 64 bits
+abbrev formula : MExpr → MExpr → MExpr → MExpr → MExpr
+formula ux uy vx vy = rd w64 (rd w64 (ux ⊗ vx) ⊕ rd w64 (uy ⊗ vy))
+
+-- once the numbers of one product are read, and of both
+abbrev one : tie.After-struct-told2 → tie.Start
+one c = c .before .before .before .before
+
+abbrev both : tie.After-struct-told4 → tie.Start
+both c = one (c .before .before .before .before)
+
+mul-result : tie.Need-mul-result
+mul-result c = safe-step 4 formula 0 (smalls (one c .pre .0) (one c .pre .1)) tt
+
+mul-result-2 : tie.Need-mul-result-2
+mul-result-2 c = safe-step 4 formula 1 (smalls (both c .pre .0) (both c .pre .1)) tt
+
+add-result : tie.Need-add-result
+add-result c = safe-step 4 formula 2 (smalls (both c .pre .0) (both c .pre .1)) tt
+
+returns : tie.Need-returns
+returns c = reads 4 formula (smalls (both c .pre .0) (both c .pre .1)) tt
+
+pub dot-spec : {M : Type 1} → statement M
+dot-spec = tie.close (tie.spec mul-result mul-result-2 add-result returns)

@@ -1,0 +1,65 @@
+-- `inner_step` makes the tests of the definition in its order.
+use mathlib.Core.Path.{_≡_, sym, _∙_, ap, subst}
+use mathlib.Core.Bool.{Bool, true}
+use Prim.Native.Nat.{ℕ, _<_}
+use borrow.Author.Tests.{not-true, not-false}
+use lib.IntN.{ℤ, _*ℤ_}
+use Rattle.rules.specs.Plane.{direction}
+use Rattle.rules.specs.Questions.{splitIn, farFrom}
+use Rattle.line.proofs.Stored.{stored}
+use Rattle.row.specs.Parts.{splitFits}
+use Rattle.row.proofs.OneVisit.{split-between, split-above}
+use Rattle.near_visit.specs.Steps.{innerBy, innerStep}
+use Rattle.near_visit.specs.declared.Step.the-variants.{Halve}
+use borrow.Author.Needs.{needs}
+use Rattle.near_visit.proofs.inner_step.Statement.{statement}
+use Rattle.near_visit.proofs.inner_step.Tie as tie
+
+-- whether the strip is far at a distance
+abbrev isFar : tie.Start → ℤ → Bool
+isFar s D = farFrom (s .args .r) (s .args .a) (direction (s .args .a) (s .args .b)) (s .args .z) D
+
+returns : tie.Need-returns
+returns c =
+    let s = c .before .before in
+    let g = sym (c .before .splits-inside .ensures) ∙ not-true _ (c .if1 .taken) in
+    (λ D e. sym (λ i. innerBy (splitIn (s .args .r)) (g i) (isFar s D)), tt)
+
+abbrev start : tie.Else1 → tie.Start
+start c = c .before .before
+
+was-good : (c : tie.Else1) → splitFits (start c .args .r) (start c .args .first) (start c .args .last) ≡ true
+was-good c = sym (c .before .splits-inside .ensures) ∙ not-false _ (c .if1 .left)
+
+-- the rule of a split holds: whether the strip is far decides
+decided : (c : tie.After-far-from) {far : Bool} → c .far-from .result ≡ far
+    → let a = start (c .before) .args in
+    (D : ℤ) → a .reach ≡ D *ℤ D
+    → innerBy (splitIn (a .r)) true far ≡ innerStep (a .r) (a .first) (a .last) (a .a) (a .b) (a .z) D
+decided c far D e =
+    let k = c .before in
+    let f = sym (c .far-from .ensures D (stored (start k .pre .1 .4) tt ∙ e)) ∙ far in
+    sym (λ i. innerBy (splitIn (start k .args .r)) (was-good k i) (f i))
+
+returns-2 : tie.Need-returns-2
+returns-2 c = (decided (c .before) (c .if2 .taken), tt)
+
+split-of-requires : tie.Need-split-of-requires
+split-of-requires c κs =
+    let k = c .before .before in
+    let a = start k .args in split-above (a .r) (a .first) (a .last) (was-good k)
+
+returns-3 : tie.Need-returns-3
+returns-3 c =
+    let k = c .before .before .before in
+    let a = start k .args in
+    let s = c .split-of .ensures in
+    let between = split-between (a .r) (a .first) (a .last) (was-good k) in (
+      λ D e. ap Halve s ∙ decided (c .before .before) (c .before .if2 .left) D e,
+      subst (λ (i : ℕ). (a .first < i) × (i < a .last)) (sym s) between,
+    )
+
+pub inner-step-spec : {M : Type 1} → statement M
+inner-step-spec =
+    tie.close
+    (tie.spec (λ c κs. search needs) returns (λ c κs. search needs) returns-2 split-of-requires returns-3)

@@ -1,0 +1,39 @@
+-- What the program holds past bytes: at first, past more bytes, and never again what it held at first.
+use mathlib.Core.Path.{_≡_, refl, sym, _∙_, ap}
+use mathlib.Core.List.{List, [], _++_}
+use Prim.Native.Nat.{ℕ}
+use native.Mathlib.Omega.{arith}
+use lib.ListN.{length-append}
+use Rattle.desk.specs.Chunks.{Carry, begun, carryChunk}
+use Rattle.desk.proofs.Chunks.{carry-append}
+use Rattle.desk.proofs.Begun.{begun-again}
+use Rattle.store.specs.declared.State.{State}
+use Rattle.byte.specs.declared.Fed.{Fed}
+use Rattle.records.specs.Left.{Slices, chunkLeft}
+use Rattle.records.specs.Carried.{Bounds}
+use Rattle.byte.specs.Feeds.{carryOf, Feeds}
+use Rattle.chunks.proofs.Chunk.{left-append}
+use Rattle.reading.specs.After.{zeros, After, AfterBytes}
+
+-- A state that is opened, with slices of zeros, is what is held past no bytes.
+pub after-none : {s : State} → carryOf s zeros ≡ begun → Bounds s → AfterBytes 0 s zeros
+unfolding carryChunk chunkLeft
+after-none {s} e bounds =
+    let none = ap (λ (c : Carry). c .desk .textLines) e in
+    let after : After [] s zeros = record { carried = e; left = refl; bounds = bounds; read = omega arith } in
+    record { input = []; count = refl; after = after }
+
+-- What more bytes come to is what is held past them too.
+pub after-more : {input bytes before out : List ℕ} {at : ℕ} {s : State} {l l′ : Slices} {r : Fed} →
+    After input s l → Feeds s l bytes before at r l′ out → After (input ++ bytes) (r .state) l′
+after-more {input} {bytes} p f =
+    record {
+      carried = f .carried ∙ ap (λ (c : Carry). carryChunk c bytes) (p .carried) ∙ sym (carry-append begun input bytes);
+      left = f .left ∙ (λ i. chunkLeft (p .carried i) (p .left i) bytes) ∙ sym (left-append begun zeros input bytes);
+      bounds = f .bounds;
+      read = let most = f .read in let few = p .read in let both = length-append input bytes in omega arith;
+    }
+
+-- A state that is opened is held past no bytes alone: opened anew after a chunk, it is never what `pass` asks for.
+pub opened-first : {n : ℕ} {s : State} {l : Slices} → AfterBytes n s l → carryOf s l ≡ begun → n ≡ 0
+opened-first p e = sym (p .count) ∙ begun-again (p .input) (sym (p .after .carried) ∙ e)

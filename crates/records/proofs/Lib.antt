@@ -1,0 +1,3 @@
+-- Turns of the desk.
+pub mod Desks
+pub mod Points

@@ -1,0 +1,29 @@
+-- `turn_line`: the text line is counted, and then it is its record.
+use Rattle.records.specs.Left.{numbers}
+use Rattle.records.proofs.Desks.{ready, line-takes}
+use borrow.Author.Needs.{needs}
+use Rattle.records.proofs.take_text.Statement.{statement}
+use Rattle.records.proofs.take_text.Tie as tie
+
+-- the text line is counted, then its record is read
+abbrev counting : tie.After-record-of → tie.After-counted
+counting c = c .before .before .before .before .before
+
+take-record-requires : tie.Need-take-record-requires
+take-record-requires c κs =
+    let k = counting c in
+    let s = k .before .before in (s .pre .0 .0, ready (k .counted .ensures) (s .pre .0 .1))
+
+returns : tie.Need-returns
+returns c =
+    let done = c .before .before .before .before in
+    let k = counting (done .before) in
+    let a = k .before .before .args in
+    line-takes (a .state) (a .text .now) (numbers (a .a .now) (a .b .now) (a .table-a .now) (a .table-b .now))
+    (k .counted .ensures) (done .before .record-of .ensures) (done .take-record .ensures)
+
+pub take-text-spec : {M : Type 1} → statement M
+take-text-spec =
+    tie.close (tie.spec
+    (search needs) (search needs) take-record-requires (search needs) (search needs) (search needs) (search needs)
+    returns)

@@ -1,0 +1,5 @@
+-- What the lent slices hold afterwards, the carried state in the words of the definitions of the question program, and
+-- what a text line comes to.
+pub mod Left
+pub mod Carried
+pub mod Takes

@@ -1,0 +1,176 @@
+-- What one visit sees, at a node whose rows stand in the table: with and without the check of 11 it is the same visit,
+-- a bad row is refused with 10, and else the rows are good and both halves stand too. So the walk is the same too, and
+-- it is refused with 10 alone, exactly where a row that is visited is bad.
+use mathlib.Core.Path.{_≡_, refl, sym, ap, subst, _∙_}
+use mathlib.Core.Bool.{Bool, true, false, not, cond}
+use mathlib.Core.List.{List, [], _∷_, _++_, append-assoc}
+use Prim.Native.Nat.{ℕ, zero, suc, _+_}
+use native.Mathlib.Omega.{arith}
+use lib.Dec.{T, ltb}
+use lib.ListN.{length, length-append}
+use Rattle.integers.specs.Laws.{cond-ind}
+use Rattle.rules.specs.declared.Line.{Line}
+use Rattle.rules.specs.declared.Next.{Next}
+use Rattle.rules.specs.declared.Next.the-variants.{Left, Spent}
+use Rattle.rules.specs.declared.Refusal.{Refusal}
+use Rattle.rules.specs.declared.Tally.{Tally}
+use Rattle.rules.specs.declared.Reply.{Reply}
+use Rattle.rules.specs.Reply.{refuses}
+use Rattle.rules.specs.Walk.{next, Visit, refuse, finish, pass, halve, Walked, ended, over, spent, refused}
+use Rattle.rules.specs.Walk.{onVisit, goOn, onStep, walk}
+use Rattle.refusals.specs.Trace.{nodesLeft, nodesHalved, nodesOfBoth, visitsOf, Each}
+use Rattle.refusals.specs.Named.{FirstBad}
+
+pub data Sees {S N : Type 0} (Fine : N → Type 0) (Good : Type 0) (Bad : Line → ℕ → Type 0)
+    : Visit S N → Visit S N → Type 0 where
+  bad : {line : Line} {place : ℕ} → Bad line place → Sees Fine Good Bad (refuse 10 line place) (refuse 10 line place)
+  finishes : Good → Sees Fine Good Bad finish finish
+  passes : {g : S → S} → Good → Sees Fine Good Bad (pass g) (pass g)
+  halves : {l r : N} → Good → Fine l → Fine r → Sees Fine Good Bad (halve l r) (halve l r)
+
+-- the visits of a walk, with and without the check of 11, and what they see of a fine node
+pub record Visits (S N : Type 0) : Type 1 where
+  pub visit : N → Visit S N
+  pub visit′ : N → Visit S N
+  pub Fine : N → Type 0
+  pub Good : N → Type 0
+  pub Bad : N → Line → ℕ → Type 0
+  pub sees : (n : N) → Fine n → Sees Fine (Good n) (Bad n) (visit n) (visit′ n)
+  pub not-both : (n : N) (l : Line) (i : ℕ) → Bad n l i → ¬ Good n
+
+-- a visit that goes by a test sees what both ways see
+pub sees-cond : {S N : Type 0} {Fine : N → Type 0} {Good : Type 0} {Bad : Line → ℕ → Type 0} {v v′ w w′ : Visit S N}
+    (b : Bool) → (T b → Sees Fine Good Bad v v′) → (T (not b) → Sees Fine Good Bad w w′)
+    → Sees Fine Good Bad (cond b v w) (cond b v′ w′)
+sees-cond true f g = f tt
+sees-cond false f g = g tt
+
+visit-same : {S : Type 0} (m : Next) (go go′ : Tally → Walked S) → ((y : Tally) → go y ≡ go′ y)
+    → onVisit m go ≡ onVisit m go′
+visit-same (Left y) go go′ h = h y
+visit-same Spent go go′ h = refl
+
+each-append : {N : Type 0} (P : N → Type 0) (ms ns : List N) → Each P ms → Each P ns → Each P (ms ++ ns)
+each-append P [] ns h k = k
+each-append P (m ∷ ms) ns h k = (h .0, each-append P ms ns (h .1) k)
+
+each-last : {N : Type 0} (P : N → Type 0) (ns : List N) (n : N) → Each P (ns ++ n ∷ []) → P n
+each-last P [] n h = h .0
+each-last P (m ∷ ns) n h = each-last P ns n (h .1)
+
+module _ {S N : Type 0} (vs : Visits S N) where
+  open Visits vs using (visit, visit′, Fine, Good, Bad, sees, not-both)
+
+  -- ---------------- both walks are the same
+
+  step-same : {G : Type 0} {B : Line → ℕ → Type 0} {v v′ : Visit S N} (s : S) (y : Tally) (go go′ : N → N → Walked S)
+      → Sees Fine G B v v′ → ((l r : N) → Fine l → Fine r → go l r ≡ go′ l r) → onStep v s y go ≡ onStep v′ s y go′
+  step-same s y go go′ (bad b) h = refl
+  step-same s y go go′ (finishes g) h = refl
+  step-same s y go go′ (passes g) h = refl
+  step-same s y go go′ (halves {l} {r} g p q) h = h l r p q
+
+  pub walk-same : (f : ℕ) (n : N) (s : S) (y : Tally) → Fine n → walk visit f n s y ≡ walk visit′ f n s y
+  unfolding walk
+  walk-same zero n s y fine = refl
+  walk-same (suc f) n s y fine =
+      visit-same (next y) _ _ λ v.
+      step-same s v _ _ (sees n fine) λ l r p q.
+      λ i. goOn (walk-same f l s v p i) (λ s′ v′. walk-same f r s′ v′ q i)
+
+  -- ---------------- what the nodes that are visited from tally y on tell of what the walk comes to
+
+  abbrev Went : List N → Tally → Tally → Type 0
+  Went nodes y v = Each Good nodes × (v .visits ≡ y .visits + length nodes)
+
+  abbrev Traced : List N → Tally → Walked S → Type 0
+  Traced nodes y (ended v) = Went nodes y v
+  Traced nodes y (over s v) = Went nodes y v
+  Traced nodes y spent = Each Good nodes
+  Traced nodes y (refused r) = FirstBad Good Bad nodes y (refuses r) × (r .number ≡ 10)
+
+  -- after nodes that are good
+  went-on : (ms ns : List N) (y v : Tally) → Went ms y v → (w : Walked S) → Traced ns v w → Traced (ms ++ ns) y w
+  went-on ms ns y v h (ended x) k = (each-append _ ms ns (h .0) (k .0), omega (arith, h .1, k .1, length-append ms ns))
+  went-on ms ns y v h (over s x) k = (each-append _ ms ns (h .0) (k .0), omega (arith, h .1, k .1, length-append ms ns))
+  went-on ms ns y v h spent k = each-append _ ms ns (h .0) k
+  went-on ms ns y v h (refused r) k =
+      let b = k .0 in (
+        record {
+          before = ms ++ b .before;
+          last = b .last;
+          parts = ap (ms ++_) (b .parts) ∙ sym (append-assoc ms (b .before) (b .last ∷ []));
+          earlier = each-append _ ms (b .before) (h .0) (b .earlier);
+          bad = b .bad;
+          counted = omega (arith, h .1, b .counted, length-append ms ns);
+        },
+        k .1,
+      )
+
+  -- the left half, then, where that is over, the right half
+  both-traced : (ns : List N) (y : Tally) (w : Walked S) (go : S → Tally → Walked S) (nodes : S → Tally → List N)
+      → Traced ns y w → ((s : S) (v : Tally) → Traced (nodes s v) v (go s v))
+      → Traced (nodesOfBoth ns w nodes) y (goOn w go)
+  both-traced ns y (ended v) go nodes h k = h
+  both-traced ns y (over s v) go nodes h k = went-on ns (nodes s v) y v h (go s v) (k s v)
+  both-traced ns y spent go nodes h k = h
+  both-traced ns y (refused r) go nodes h k = h
+
+  -- one visit, that counts, and what comes of it
+  step-traced : (n : N) (s : S) (y v : Tally) (go : N → N → Walked S) (nodes : N → N → List N)
+      → v .visits ≡ y .visits + 1 → ((l r : N) → Fine l → Fine r → Traced (nodes l r) v (go l r))
+      → {u u′ : Visit S N} → Sees Fine (Good n) (Bad n) u u′
+      → Traced (n ∷ nodesHalved u nodes) y (onStep u s v go)
+  step-traced n s y v go nodes c h (bad b) =
+      (record { before = []; last = n; parts = refl; earlier = tt; bad = b; counted = c }, refl)
+  step-traced n s y v go nodes c h (finishes g) = ((g, tt), c)
+  step-traced n s y v go nodes c h (passes g) = ((g, tt), c)
+  step-traced n s y v go nodes c h (halves {l} {r} g p q) =
+      went-on (n ∷ []) (nodes l r) y v ((g, tt), c) (go l r) (h l r p q)
+
+  walk-traced : (f : ℕ) (n : N) (s : S) (y : Tally) → Fine n → Traced (visitsOf visit f n s y) y (walk visit f n s y)
+  unfolding walk visitsOf
+  walk-traced zero n s y fine = tt
+  walk-traced (suc f) n s y fine =
+      cond-ind (ltb (y .visits) (y .allowance)) (Left v) Spent
+      (λ m.
+      Traced (nodesLeft m (λ x. n ∷ nodesHalved (visit n) (nodes x))) y (onVisit m (λ x. onStep (visit n) s x (go x))))
+      (λ _.
+      step-traced n s y v (go v) (nodes v) refl
+      (λ l r p q.
+      both-traced (visitsOf visit f l s v) v (walk visit f l s v) (walk visit f r) (visitsOf visit f r)
+      (walk-traced f l s v p) (λ s′ v′. walk-traced f r s′ v′ q))
+      (sees n fine))
+      (λ _. tt)
+    where
+      v : Tally
+      v = record { allowance = y .allowance; visits = y .visits + 1 }
+
+      go : Tally → N → N → Walked S
+      go x l r = goOn (walk visit f l s x) (walk visit f r)
+
+      nodes : Tally → N → N → List N
+      nodes x l r = nodesOfBoth (visitsOf visit f l s x) (walk visit f l s x) (visitsOf visit f r)
+
+  module _ (f : ℕ) (n : N) (s : S) (y : Tally) (fine : Fine n) where
+    -- a walk is refused with 10 alone, and names the first bad row
+    pub first-bad : (r : Refusal) → walk visit f n s y ≡ refused r
+        → FirstBad Good Bad (visitsOf visit f n s y) y (refuses r) × (r .number ≡ 10)
+    first-bad r e = subst (Traced (visitsOf visit f n s y) y) e (walk-traced f n s y fine)
+
+    -- and where one is bad, the walk is refused
+    pub bad-refused : (q : Reply) → FirstBad Good Bad (visitsOf visit f n s y) y q
+        → (r : Refusal) × (walk visit f n s y ≡ refused r)
+    bad-refused q h = go (walk visit f n s y) refl (walk-traced f n s y fine)
+      where
+        none : Each Good (visitsOf visit f n s y) → ⊥
+        none k =
+            not-both (h .last) (q .line) (q .place) (h .bad)
+            (each-last Good (h .before) (h .last) (subst (Each Good) (h .parts) k))
+
+        go : (w : Walked S) → walk visit f n s y ≡ w → Traced (visitsOf visit f n s y) y w
+            → (r : Refusal) × (walk visit f n s y ≡ refused r)
+        go (ended v) e k = absurd (none (k .0))
+        go (over x v) e k = absurd (none (k .0))
+        go spent e k = absurd (none k)
+        go (refused r) e k = (r, e)

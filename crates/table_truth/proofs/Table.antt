@@ -1,0 +1,103 @@
+-- What stands in a lent table after a build: refused, what stood there; else the described rows, and past them what
+-- stood there.
+use mathlib.Core.Path.{_≡_, refl, sym, ap, _∙_}
+use mathlib.Core.List.{List, _++_}
+use mathlib.Core.Option.{Option, none, some}
+use Prim.Native.Nat.{ℕ, _*_, _≤_}
+use native.Mathlib.Nat.{sub-zero}
+use native.Mathlib.Omega.{arith}
+use lib.IntN.{ℤ}
+use lib.ListN.{length, take, drop, length-append, length-drop}
+use lib.Seq.{take-at, drop-at}
+use Rattle.rules.specs.declared.Line.{Line}
+use Rattle.rules.specs.declared.Refusal.{Refusal}
+use Rattle.rules.specs.Sheet.{pointsOf, segmentsOf, fewest}
+use Rattle.rules.specs.Tree.{width, rowCount}
+use Rattle.rules.specs.Reply.{firstRefusal}
+use Rattle.rules.specs.Rows.{lengthChecks}
+use Rattle.rules.specs.Build.{buildRefusal, tableOf, builtTable}
+use Rattle.visits.proofs.Checks.{clear-none, lengths-clear}
+use Rattle.table_truth.specs.Accepted.{rowNumbers, Accepted}
+use Rattle.table_truth.proofs.Rows.{count-rows}
+use Rattle.table_truth.proofs.Refusals.{accepted, none-refused}
+
+-- a line's table has 2n - 1 rows
+pub table-length : (ps : List ℤ) → fewest ≤ pointsOf ps → length (tableOf ps) ≡ rowNumbers ps
+unfolding tableOf
+table-length ps h =
+    count-rows (segmentsOf ps) ps 0 (segmentsOf ps) (omega arith) (omega arith)
+    ∙ ap (λ (n : ℕ). width * rowCount n) (sub-zero (segmentsOf ps))
+
+module _ (ps t : List ℤ) where
+  -- building refused writes nothing
+  pub built-refused : (r : Refusal) → buildRefusal ps t ≡ some r → builtTable ps t ≡ t
+  unfolding builtTable
+  built-refused r e = rw e
+
+  -- else the rows of the line, and what stood past them
+  pub built-whole : buildRefusal ps t ≡ none → builtTable ps t ≡ tableOf ps ++ drop (rowNumbers ps) t
+  unfolding builtTable
+  built-whole e = rw e
+
+  whole-length : buildRefusal ps t ≡ none → length (tableOf ps) ≡ rowNumbers ps
+  whole-length e = table-length ps (accepted ps t e .lengths .some-points)
+
+  pub built-rows : buildRefusal ps t ≡ none → take (rowNumbers ps) (builtTable ps t) ≡ tableOf ps
+  built-rows e = rw (built-whole e) (take-at (tableOf ps) (drop (rowNumbers ps) t) (rowNumbers ps) (whole-length e))
+
+  by-refusal : {A : Type 0} → (buildRefusal ps t ≡ none → A) → ((r : Refusal) → buildRefusal ps t ≡ some r → A) → A
+  by-refusal {A} f g = go (buildRefusal ps t) refl
+    where
+      go : (o : Option Refusal) → buildRefusal ps t ≡ o → A
+      go none e = f e
+      go (some r) e = g r e
+
+  -- numbers past the rows stay unchanged
+  pub built-rest : drop (rowNumbers ps) (builtTable ps t) ≡ drop (rowNumbers ps) t
+  built-rest =
+      by-refusal
+      (λ e. rw (built-whole e) (drop-at (tableOf ps) (drop (rowNumbers ps) t) (rowNumbers ps) (whole-length e)))
+      (λ r e. ap (drop (rowNumbers ps)) (built-refused r e))
+
+  pub built-length : length (builtTable ps t) ≡ length t
+  built-length =
+      by-refusal
+      (λ e.
+      rw (built-whole e, length-append, length-drop, whole-length e)
+      (omega (arith, accepted ps t e .lengths .table-long)))
+      (λ r e. ap length (built-refused r e))
+
+-- ---------------- building again
+
+-- acceptance goes by the length of the table alone
+accepted-length : {ps t u : List ℤ} → length t ≡ length u → Accepted ps t → Accepted ps u
+accepted-length e a =
+    let l = a .lengths in record {
+      lengths = record {
+        even = l .even;
+        some-points = l .some-points;
+        not-more = l .not-more;
+        table-long = omega (arith, l .table-long);
+      };
+      on = a .on;
+      differ = a .differ;
+    }
+
+-- a table built without refusal is accepted again
+pub built-accepted : (ps t : List ℤ) → buildRefusal ps t ≡ none → Accepted ps (builtTable ps t)
+built-accepted ps t e = accepted-length (sym (built-length ps t)) (accepted ps t e)
+
+-- and passes the checks of lengths that a question makes, as whichever line
+pub built-passes : (l : Line) (ps t : List ℤ) → buildRefusal ps t ≡ none
+    → firstRefusal (lengthChecks l ps (builtTable ps t)) ≡ none
+built-passes l ps t e =
+    let u = builtTable ps t in clear-none (lengthChecks l ps u) (lengths-clear l ps u (built-accepted ps t e .lengths))
+
+-- building again changes nothing
+pub built-twice : (ps t : List ℤ) → builtTable ps (builtTable ps t) ≡ builtTable ps t
+built-twice ps t =
+    by-refusal ps t
+    (λ e.
+    built-whole ps (builtTable ps t) (none-refused ps (builtTable ps t) (built-accepted ps t e))
+    ∙ ap (tableOf ps ++_) (built-rest ps t) ∙ sym (built-whole ps t e))
+    (λ r e. ap (builtTable ps) (built-refused ps t r e))

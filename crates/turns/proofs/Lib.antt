@@ -1,2 +1,0 @@
--- Turns of the desk.
-pub mod Desks
