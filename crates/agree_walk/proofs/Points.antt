@@ -16,7 +16,8 @@ use Rattle.rules.specs.Sheet.{point, onSheet}
 use Rattle.rules.specs.Walk.{Walked, ended, over, spent, refused}
 use Rattle.rules.specs.Questions.{Nothing, nearWalk, Asked, allNear, notNear, unasked, faulted, onNear, askAll}
 use Rattle.rules.specs.Questions.{onAllNear}
-use Rattle.ending.specs.Ending.{packed, visitsIn, endIn, SPENT, badRow, badSecond, refusalAt, refusalIn, tallyIn, due, walkedIn}
+use Rattle.ending.specs.Ending.{packed, visitsIn, endIn, SPENT, badRow, badSecond, refusalAt, refusalIn, tallyIn, due}
+use Rattle.ending.specs.Ending.{walkedIn}
 use Rattle.ending.proofs.Ends.{visits-in, end-in, is-even, is-odd, is-ended, is-spent, is-bad}
 use Rattle.agree_walk.specs.Asking.{OFF, offSheet, asked}
 

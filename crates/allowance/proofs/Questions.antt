@@ -10,22 +10,20 @@ use Prim.Native.Nat.{ℕ}
 use native.Mathlib.Nat.{zero-add}
 use native.Mathlib.Omega.{arith}
 use lib.IntN.{ℤ}
-use Rattle.integers.specs.Laws.{cond-ind}
+use Rattle.integers.specs.Laws.{cond-ind, option-ind}
 use Rattle.rules.specs.declared.Refusal.{Refusal}
 use Rattle.rules.specs.declared.Tally.{Tally}
 use Rattle.rules.specs.declared.Line.{Line}
 use Rattle.rules.specs.declared.Line.the-variants.{LineA, LineB}
 use Rattle.rules.specs.declared.Point.{Point}
-use Rattle.rules.specs.declared.Word.the-variants.{UNDECIDED, YES, NO, INSIDE}
+use Rattle.rules.specs.declared.Word.the-variants.{UNDECIDED, YES, NO, INSIDE, OUTSIDE, ON}
 use Rattle.rules.specs.declared.Reply.{Reply}
-use Rattle.rules.specs.Reply.{Check, early, firstRefusal, orRefused, refuses, says}
-use Rattle.rules.specs.declared.Word.the-variants.{OUTSIDE, ON}
-use Rattle.rules.specs.Reply.{disagrees}
+use Rattle.rules.specs.Reply.{Check, early, firstRefusal, orRefused, refuses, says, disagrees}
 use Rattle.rules.specs.Rows.{lengthChecks, distanceCheck, askedCheck, ringCheck}
 use Rattle.rules.specs.Walk.{fresh}
 use Rattle.rules.specs.Questions.{Nothing, yesOrNo, nearReply, meetReply, sideOfRing, inReply, agreed, agreeReply}
 use Rattle.visits.proofs.Tests.{never}
-use Rattle.visits.proofs.Checks.{some-segment, rest-none}
+use Rattle.visits.proofs.Checks.{some-segment, both-segments}
 use Rattle.allowance.specs.Decides.{Decides}
 use Rattle.allowance.specs.Enough.{pointEnough, pairEnough, agreeEnough}
 use Rattle.allowance.proofs.Needs.{after, Settled}
@@ -80,11 +78,9 @@ early-visits (k ∷ ks) =
 -- a question whose checks come first is decided if it is decided where none of them refuses
 checked-decides : (ks : List Check) {reply : ℕ → Reply} {enough : ℕ} → (firstRefusal ks ≡ none → Decides reply enough)
     → Decides (λ allowance. orRefused (firstRefusal ks) (reply allowance)) enough
-checked-decides ks {reply} {enough} d = go (firstRefusal ks) refl
-  where
-    go : (o : Option Refusal) → firstRefusal ks ≡ o → Decides (λ allowance. orRefused o (reply allowance)) enough
-    go none e = d e
-    go (some f) e = record {
+checked-decides ks {reply} {enough} d =
+    option-ind (λ o. Decides (λ allowance. orRefused o (reply allowance)) enough) (firstRefusal ks) d
+    (λ f e. record {
       needs = 0;
       answer = refuses f;
       decided = λ e. never (cc);
@@ -92,7 +88,7 @@ checked-decides ks {reply} {enough} d = go (firstRefusal ks) refl
       bounded = omega arith;
       given = λ a h. refl;
       undecided = λ a h. absurd (omega arith);
-    }
+    })
 
 -- ---- each reading of an outcome says one final reply
 refused-speaks : (number : ℕ) (line : Line) (place : ℕ)
@@ -137,18 +133,14 @@ in-decides ps t z =
 pub meet-decides : (ps t qs t′ : List ℤ) → Decides (meetReply ps t qs t′) (pairEnough ps qs)
 unfolding meetReply
 meet-decides ps t qs t′ =
-    let rest = lengthChecks LineB qs t′ in
-    checked-decides (lengthChecks LineA ps t ++ rest) λ e.
-    settled-decides yesOrNo (λ a. refl) yes-or-no-speaks
-    (meet-settled ps t qs t′ (some-segment LineA ps t rest e)
-    (some-segment LineB qs t′ [] (rest-none LineA ps t rest e)))
+    checked-decides (lengthChecks LineA ps t ++ lengthChecks LineB qs t′) λ e.
+    let one = both-segments ps t qs t′ [] e in
+    settled-decides yesOrNo (λ a. refl) yes-or-no-speaks (meet-settled ps t qs t′ (one .0) (one .1))
 
 -- AGREE is decided by (n + 1)*(2m - 1) + (m + 1)*(2n - 1) visits
 pub agree-decides : (ps t qs t′ : List ℤ) (D : ℤ) → Decides (agreeReply ps t qs t′ D) (agreeEnough ps qs)
 unfolding agreeReply
 agree-decides ps t qs t′ D =
-    let rest = distanceCheck D ∷ [] in
-    checked-decides (lengthChecks LineA ps t ++ lengthChecks LineB qs t′ ++ rest) λ e.
-    settled-decides agreed (λ a. refl) agreed-speaks
-    (agree-settled ps t qs t′ D (some-segment LineA ps t (lengthChecks LineB qs t′ ++ rest) e)
-    (some-segment LineB qs t′ rest (rest-none LineA ps t (lengthChecks LineB qs t′ ++ rest) e)))
+    checked-decides (lengthChecks LineA ps t ++ lengthChecks LineB qs t′ ++ distanceCheck D ∷ []) λ e.
+    let one = both-segments ps t qs t′ (distanceCheck D ∷ []) e in
+    settled-decides agreed (λ a. refl) agreed-speaks (agree-settled ps t qs t′ D (one .0) (one .1))

@@ -1,7 +1,7 @@
 -- Numbers that fit an i32, as the machine reads them back: out of 64 bits, and out of 32 bits cast from 64.
 use mathlib.Core.Path.{_≡_, refl, ap, _∙_}
 use mathlib.Core.Bool.{Bool, true, false}
-use mathlib.Core.List.{List, [], _∷_}
+use mathlib.Core.List.{List, [], _∷_, _++_}
 use lib.IntN.{ℤ}
 use lib.Signed.{ltZ}
 use mir.Syntax.{w32, w64}
@@ -25,6 +25,10 @@ wides (z ∷ zs) = toZ w64 (ofZ w64 z) ∷ wides zs
 pub wides-same : (zs : List ℤ) → AllFit zs → wides zs ≡ zs
 wides-same [] h = refl
 wides-same (z ∷ zs) h = λ d. wide-same (h .0) d ∷ wides-same zs (h .1) d
+
+-- numbers that fit are written as they are
+pub wides-written : (zs rest : List ℤ) {ns t : List ℤ} → AllFit zs → zs ≡ ns → t ≡ wides zs ++ rest → t ≡ ns ++ rest
+wides-written zs rest h e w = rw (wides-same zs h, e) at w
 
 -- each number, out of 32 bits that are cast from 64
 abbrev pub narrows : List ℤ → List ℤ

@@ -1,12 +1,12 @@
 -- The row of a node, and its box, which is written last.
 use mathlib.Core.Bool.{Bool, cond}
-use mathlib.Core.List.{List, _++_}
-use Prim.Native.Nat.{ℕ}
+use mathlib.Core.List.{List}
+use Prim.Native.Nat.{ℕ, _+_}
 use lib.IntN.{ℤ, pos}
 use lib.ListN.{getD, drop, set}
 use Rattle.integers.specs.Order.{minZ, maxZ}
 use Rattle.rules.specs.declared.Row.{Row}
-use Rattle.rules.specs.Tree.{splitOf, width, numbers, rowAt, measured, noSplit, isLeaf}
+use Rattle.rules.specs.Tree.{splitOf, width, numbers, measured, noSplit, isLeaf}
 
 -- ---- the row of the node that covers the points first to last
 abbrev pub nodeRow : List ℤ → ℕ → ℕ → Row
@@ -55,18 +55,19 @@ joined r a b =
     withBox r (minZ (a .xmin) (b .xmin)) (maxZ (a .xmax) (b .xmax)) (minZ (a .ymin) (b .ymin))
     (maxZ (a .ymax) (b .ymax))
 
--- the row that stands n numbers on
-abbrev pub rowFrom : ℕ → List ℤ → Row
-rowFrom n t = rowAt (drop n t) 0
-
--- the table whose front row has the box of its halves, whose rows stand next and at right
-abbrev pub boxedBy : ℕ → List ℤ → List ℤ
-boxedBy right t = numbers (joined (rowFrom 0 t) (rowFrom width t) (rowFrom right t)) ++ drop width t
-
 -- the lesser of two numbers, or the greater
 abbrev pub extreme : Bool → ℤ → ℤ → ℤ
 extreme least a b = cond least (minZ a b) (maxZ a b)
 
--- number k of the front row alone, set to the choice of number k of those two rows
+-- number k of the front row alone, set to the choice of number k of its halves' rows, which stand next and at right
 abbrev pub setBy : (ℤ → ℤ → ℤ) → ℕ → ℕ → List ℤ → List ℤ
 setBy pick right k t = set t k (pick (getD (drop width t) k (pos 0)) (getD (drop right t) k (pos 0)))
+
+-- where the box stands in a row
+abbrev pub box : ℕ
+box = 7
+
+-- the table whose front row has the box of those two rows
+abbrev pub boxedBy : ℕ → List ℤ → List ℤ
+boxedBy right t =
+    setBy maxZ right (box + 3) (setBy minZ right (box + 2) (setBy maxZ right (box + 1) (setBy minZ right box t)))

@@ -13,19 +13,18 @@ use Rattle.words.specs.Fields.{lineFeed}
 use Rattle.print.specs.Printed.{widest}
 use Rattle.print.specs.Put.{Put}
 use Rattle.print.proofs.Width.{printed-fits}
-use Rattle.print.proofs.Writing.{put-same}
+use Rattle.print.proofs.Writing.{put-same, put-none}
 use Rattle.desk.specs.Desk.{Desk, takeText, saidBytes, bytesOf}
 use Rattle.desk.specs.Chunks.{Carry, printByte, carryChunk, printChunk}
 use Rattle.desk.specs.Kept.{keptBytes}
 use Rattle.desk.proofs.Chunks.{carried, printing, carry-byte, print-byte}
 use Rattle.store.specs.declared.State.{State}
 use Rattle.store.specs.declared.Outcome.{Outcome}
-use Rattle.store.specs.States.{keptLeft, withPending, counted, heard, Keeps}
+use Rattle.store.specs.States.{keptLeft, withPending, heard, Keeps}
 use Rattle.store.proofs.Texts.{pending-bytes}
-use Rattle.store.proofs.Written.{put-none}
 use Rattle.records.specs.Left.{Numbers, Slices, textLeft, byteLeft, chunkLeft}
 use Rattle.records.specs.Carried.{deskOf, Bounds}
-use Rattle.records.specs.Takes.{Takes}
+use Rattle.records.specs.Takes.{TakesText}
 use Rattle.byte.specs.Feeds.{carryOf, Feeds}
 
 module _ (c : Carry) (b : ℕ) where
@@ -81,21 +80,19 @@ module _ {s : State} (l : Slices) (bounds : Bounds s) {byte : ℕ} (out : List �
       }
 
   -- A line feed ends the text line of the pending bytes, and its outcome is printed.
-  pub byte-ends : {t : Outcome} {n : Numbers} {out′ : List ℕ} {next : ℕ} → byte ≡ lineFeed → let c = carryOf s l in
-      Takes (takeText (c .desk) (c .pending)) (counted s) t (n .stores .a) (n .stores .b)
-      × (n ≡ textLeft (c .desk) (l .numbers) (c .pending)) →
+  pub byte-ends : {t : Outcome} (n : Numbers) {out′ : List ℕ} {next : ℕ} →
+      byte ≡ lineFeed → TakesText s (carryOf s l .pending) (l .numbers) t n →
       Put out at (saidBytes (heard (t .speech)) (t .state .printed)) out′ next →
-      Feeds s l (byte ∷ []) out at (record { state = t .state; wrote = next })
-      (record { numbers = n; text = l .text })
+      Feeds s l (byte ∷ []) out at (record { state = t .state; wrote = next }) (record { numbers = n; text = l .text })
       out′
-  byte-ends feed (turns, left) put =
+  byte-ends n feed (taken, left) put =
       let c = carryOf s l in
       let e = eq-eqb byte lineFeed feed in
       record {
-        carried = (λ i. record { desk = turns .taken i .desk; pending = take (turns .pending i) (l .text) })
+        carried = (λ i. record { desk = taken .taken i .desk; pending = take (taken .pending i) (l .text) })
             ∙ sym (carry-one c byte e);
         left = (λ i. record { numbers = left i; text = l .text }) ∙ sym (left-one c byte l e);
-        printed = put-same (ap bytesOf (turns .taken) ∙ sym (print-one c byte e)) put;
-        bounds = turns .bounds;
+        printed = put-same (ap bytesOf (taken .taken) ∙ sym (print-one c byte e)) put;
+        bounds = taken .bounds;
         read = omega arith;
       }

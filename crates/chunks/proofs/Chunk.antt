@@ -8,12 +8,11 @@ use native.Mathlib.Omega.{arith}
 use lib.ListN.{length, take, getD, length-append}
 use lib.Seq.{length-take-le, take-all, take-suc}
 use Rattle.print.specs.Printed.{widest}
-use Rattle.print.proofs.Writing.{put-same, put-behind}
+use Rattle.print.proofs.Writing.{put-same, put-none, put-behind}
 use Rattle.desk.specs.Chunks.{Carry, carryByte, carryChunk, printChunk}
 use Rattle.desk.specs.Kept.{keptBytes}
 use Rattle.desk.proofs.Chunks.{carry-append, print-append}
 use Rattle.store.specs.declared.State.{State}
-use Rattle.store.proofs.Written.{put-none}
 use Rattle.records.specs.Left.{Slices, byteLeft, chunkLeft}
 use Rattle.records.specs.Carried.{Lent, Bounds}
 use Rattle.byte.specs.declared.Fed.{Fed}
@@ -61,31 +60,25 @@ module _ (s : State) (l : Slices) (chunk before : List ℕ) where
   pub fed-none : Sizes l → Bounds s → FedFirst 0 (record { state = s; wrote = 0 }) l before
   unfolding carryChunk chunkLeft printChunk
   fed-none sizes bounds =
-      record {
-        feeds =
-            record { carried = refl; left = refl; printed = put-none before 0; bounds = bounds; read = omega arith };
-        sizes = sizes;
-        same = refl;
-        within = omega arith;
-        short = omega arith;
-      }
+      let none = put-none before 0 in
+      let feeds : Feeds s l [] before 0 (record { state = s; wrote = 0 }) l before =
+      record { carried = refl; left = refl; printed = none; bounds = bounds; read = omega arith } in
+      record { feeds = feeds; sizes = sizes; same = refl; within = omega arith; short = omega arith }
 
 module _ {s : State} {l after : Slices} {chunk before out : List ℕ} {i : ℕ} {r : Fed}
     (p : FedFirst s l chunk before i r after out) where
   -- There is room for one line more, and a number for one text line more.
   pub fed-room : i < length chunk → widest * length chunk ≤ length before → r .wrote + widest ≤ length out
-  fed-room h k = let short = p .short in let same = p .same in omega arith
+  fed-room h k = omega (arith, p .short, p .same)
 
   pub fed-number : i < length chunk → s .read + length chunk < 2 ^ 64 → r .state .read + 1 < 2 ^ 64
-  fed-number h k =
-      let most = p .feeds .read in
-      let all = length-take-le i chunk (p .within) in omega arith
+  fed-number h k = omega (arith, p .feeds .read, length-take-le i chunk (p .within))
 
   -- And then one byte more.
-  pub fed-more : {r′ : Fed} {after′ : Slices} {out′ : List ℕ} → i < length chunk →
+  pub fed-more : {r′ : Fed} (after′ : Slices) {out′ : List ℕ} → i < length chunk →
       Feeds (r .state) after (getD chunk i 0 ∷ []) out (r .wrote) r′ after′ out′ → Sizes after′ →
       length out′ ≡ length out → FedFirst s l chunk before (i + 1) r′ after′ out′
-  fed-more {r′} {after′} {out′} h f sizes same =
+  fed-more {r′} after′ {out′} h f sizes same =
       let byte = getD chunk i 0 in
       let more : take i chunk ++ byte ∷ [] ≡ take (i + 1) chunk =
       sym (ap (λ (n : ℕ). take n chunk) (add-one i) ∙ take-suc chunk i 0 h) in
@@ -93,13 +86,8 @@ module _ {s : State} {l after : Slices} {chunk before out : List ℕ} {i : ℕ} 
       let behind = f .printed .behind in
       let short = p .short in
       let both = feeds-behind (omega arith) (p .feeds) f in
-      record {
-        feeds = subst (λ (xs : List ℕ). Feeds s l xs before 0 r′ after′ out′) more both;
-        sizes = sizes;
-        same = same ∙ p .same;
-        within = omega arith;
-        short = omega arith;
-      }
+      let feeds = subst (λ (xs : List ℕ). Feeds s l xs before 0 r′ after′ out′) more both in
+      record { feeds = feeds; sizes = sizes; same = same ∙ p .same; within = omega arith; short = omega arith }
 
   -- At last all are fed.
   pub fed-all : length chunk ≤ i → Feeds s l chunk before 0 r after out

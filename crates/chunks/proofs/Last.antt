@@ -5,13 +5,12 @@ use Prim.Native.Nat.{ℕ, _<_}
 use native.Mathlib.Omega.{arith}
 use lib.ListN.{length, take}
 use Rattle.words.specs.Fields.{lineFeed}
-use Rattle.print.proofs.Writing.{put-same}
+use Rattle.print.proofs.Writing.{put-same, put-none}
 use Rattle.desk.specs.Desk.{Desk, takeText, bytesOf}
 use Rattle.desk.specs.Chunks.{lastLine}
 use Rattle.desk.specs.Kept.{keptBytes}
 use Rattle.store.specs.declared.State.{State}
 use Rattle.store.proofs.Texts.{pending-bytes}
-use Rattle.store.proofs.Written.{put-none}
 use Rattle.records.specs.Left.{Numbers, Slices, textLeft, lastLeft}
 use Rattle.records.specs.Carried.{Bounds}
 use Rattle.byte.specs.declared.Fed.{Fed}
@@ -39,10 +38,10 @@ module _ (s : State) (l : Slices) (out : List ℕ) where
       }
 
   -- Where bytes are pending, a line feed ends their text line.
-  pub last-ends : {r : Fed} {after : Slices} {out′ : List ℕ} →
+  pub last-ends : {r : Fed} (after : Slices) {out′ : List ℕ} →
       length (l .text) ≡ keptBytes → Bounds s → (s .pending ≡ 0 → ⊥) →
       Feeds s l (lineFeed ∷ []) out 0 r after out′ → Finishes s l out (r .wrote) after out′
-  last-ends whole bounds any f =
+  last-ends after whole bounds any f =
       let c = carryOf s l in
       let all = pending-bytes (l .text) whole (bounds .kept) in
       let some : 0 < length (c .pending) = omega arith in

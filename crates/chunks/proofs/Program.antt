@@ -2,11 +2,11 @@
 use mathlib.Core.Path.{_≡_, _∙_, ap}
 use mathlib.Core.List.{List, _++_}
 use Prim.Native.Nat.{ℕ}
+use Rattle.print.proofs.Writing.{put-front}
 use Rattle.desk.specs.Program.{program}
 use Rattle.desk.specs.Chunks.{Carry, begun, printChunk, printChunks, joinAll}
 use Rattle.desk.proofs.Chunks.{cut-anyhow}
 use Rattle.store.specs.declared.State.{State}
-use Rattle.store.proofs.Written.{put-front}
 use Rattle.records.specs.Left.{Slices}
 use Rattle.byte.specs.Feeds.{carryOf}
 use Rattle.chunks.specs.Runs.{Runs, ended, fed}

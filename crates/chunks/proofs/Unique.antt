@@ -16,19 +16,19 @@ use Rattle.words.specs.declared.Record.the-variants.{Start, Pt, Near, In, Meet,
 use Rattle.words.specs.Fields.{lineFeed}
 use Rattle.words.specs.Records.{recordOf}
 use Rattle.print.proofs.Unique.{put-unique}
-use Rattle.desk.specs.Desk.{Desk, room, countText, takeText}
+use Rattle.desk.specs.Desk.{Desk, room, countText}
 use Rattle.desk.specs.Chunks.{Carry, begun, carryByte}
-use Rattle.desk.specs.Kept.{keptBytes}
+use Rattle.desk.specs.Kept.{keptBytes, Stored}
 use Rattle.store.specs.declared.State.{State}
 use Rattle.store.specs.declared.Speech.{Speech}
 use Rattle.store.specs.declared.Speech.the-variants.{Quiet, Says}
 use Rattle.store.specs.declared.Outcome.{Outcome}
-use Rattle.store.specs.States.{counted, heard}
+use Rattle.store.specs.States.{heard}
 use Rattle.store.proofs.Stores.{point-size, held-unique}
 use Rattle.store.proofs.Texts.{pending-bytes, kept-size}
 use Rattle.records.specs.Left.{Both, Numbers, Slices, slices, storesLeft, recordLeft, textLeft, byteLeft, chunkLeft}
 use Rattle.records.specs.Carried.{Bounds}
-use Rattle.records.specs.Takes.{Takes}
+use Rattle.records.specs.Takes.{TakesText}
 use Rattle.byte.specs.declared.Fed.{Fed}
 use Rattle.byte.specs.Feeds.{carryOf, Feeds}
 use Rattle.chunks.specs.Finishes.{Finishes}
@@ -82,27 +82,29 @@ chunk-sized c l [] s = s
 chunk-sized c l (b ∷ bs) s = chunk-sized (carryByte c b) (byteLeft c l b) bs (byte-sized c l b s)
 
 -- ---------------- one state
+module _ {s : State} {l : Slices} (size : Sized l) (k : Bounds s) where
+  stored-a : Stored (s .a) (l .numbers .stores .a)
+  stored-a = record { whole = size .store-a; counted = k .count-a }
+
+  stored-b : Stored (s .b) (l .numbers .stores .b)
+  stored-b = record { whole = size .store-b; counted = k .count-b }
+
 -- The same carry is carried by the same state.
 pub state-unique : {s s′ : State} {l l′ : Slices} →
     Sized l → Sized l′ → Bounds s → Bounds s′ → carryOf s l ≡ carryOf s′ l′ → s ≡ s′
 state-unique {s} {s′} {l} {l′} size size′ k k′ e =
-    let held-a : s .a ≡ s′ .a =
-    held-unique (record { whole = size .store-a; counted = k .count-a })
-    (record { whole = size′ .store-a; counted = k′ .count-a })
-    (λ i. e i .desk .a) in
-    let held-b : s .b ≡ s′ .b =
-    held-unique (record { whole = size .store-b; counted = k .count-b })
-    (record { whole = size′ .store-b; counted = k′ .count-b })
-    (λ i. e i .desk .b) in
+    let held-a = held-unique (stored-a size k) (stored-a size′ k′) (λ i. e i .desk .a) in
+    let held-b = held-unique (stored-b size k) (stored-b size′ k′) (λ i. e i .desk .b) in
     let many = pending-bytes (l .text) (size .text) (k .kept) in
     let many′ = pending-bytes (l′ .text) (size′ .text) (k′ .kept) in
     let kept : s .pending ≡ s′ .pending = many ∙ ap (λ (c : Carry). length (c .pending)) e ∙ sym many′ in
-    λ i. record {
-      target = e i .desk .target;
+    λ i. let d = e i .desk in
+    record {
+      target = d .target;
       a = held-a i;
       b = held-b i;
-      read = e i .desk .textLines;
-      printed = e i .desk .printedLines;
+      read = d .textLines;
+      printed = d .printedLines;
       pending = kept i;
     }
 
@@ -114,15 +116,9 @@ speech-unique (Says said) Quiet e = absurd (let never : _≡_ {A = ℕ} 0 1 = cc
 speech-unique (Says said) (Says said′) e = cc
 
 -- ---------------- one outcome
--- what is promised of a text line: the state and what is said, and every lent number
-abbrev TakesText : State → Slices → List ℕ → Outcome → Numbers → Type 0
-TakesText s l text r after =
-    let d = carryOf s l .desk in
-    Takes (takeText d text) (counted s) r (after .stores .a) (after .stores .b) × (after ≡ textLeft d (l .numbers) text)
-
 -- Two outcomes of a text line are equal: the state and what is said, and every lent number.
 pub takes-unique : (s : State) {l : Slices} (text : List ℕ) {r r′ : Outcome} {after after′ : Numbers} → Sized l →
-    TakesText s l text r after → TakesText s l text r′ after′ → (r ≡ r′) × (after ≡ after′)
+    TakesText s text (l .numbers) r after → TakesText s text (l .numbers) r′ after′ → (r ≡ r′) × (after ≡ after′)
 takes-unique s {l} text {r} {r′} size (f, left) (g, left′) =
     let Fits : Numbers → Type 0 = λ n. Sized (record { numbers = n; text = l .text }) in
     let sized = text-sized (carryOf s l .desk) l text size in

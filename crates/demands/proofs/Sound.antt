@@ -44,21 +44,12 @@ Honest plain r = (r .word ≡ UNDECIDED) ⊎ (r ≡ plain (r .visits))
 -- what is decided, and honest at every allowance, answers: what it needs brings an answer
 answers : {reply plain : ℕ → Reply} {enough : ℕ} → Decides reply enough → ((a : ℕ) → Honest plain (reply a))
     → Answers reply plain enough
-answers {reply} {plain} d h = record {
-  needs = d .needs;
-  bounded = d .bounded;
-  given = λ a l. d .given a l ∙ answer-plain;
-  undecided = d .undecided;
-}
-  where
-    found : reply (d .needs) ≡ d .answer
-    found = d .given (d .needs) (le-refl (d .needs))
-
-    answer-plain : d .answer ≡ plain (d .needs)
-    answer-plain =
-        ⊎-elim (λ e. absurd (d .decided (sym (ap (λ r. r .word) found) ∙ e)))
-        (λ e. sym found ∙ e ∙ ap plain (ap (λ r. r .visits) found ∙ d .counted))
-        (h (d .needs))
+answers {reply} {plain} d h =
+    let found : reply (d .needs) ≡ d .answer = d .given (d .needs) (le-refl (d .needs)) in
+    let said : d .answer ≡ plain (d .needs) =
+    ⊎-elim (λ e. absurd (d .decided (sym (ap (λ r. r .word) found) ∙ e)))
+    (λ e. sym found ∙ e ∙ ap plain (ap (λ r. r .visits) found ∙ d .counted)) (h (d .needs)) in
+    record { needs = d .needs; bounded = d .bounded; given = λ a l. d .given a l ∙ said; undecided = d .undecided }
 
 -- ---------------- NEAR, MEET, IN
 
@@ -93,13 +84,11 @@ side-given false false e = never (cc)
 only-answers : {w : Word} {o : Option Refusal} {reply : ℕ → Reply} {enough : ℕ} → w ≢ REFUSED → o ≡ none
     → Decides (λ a. orRefused o (reply a)) enough → ((a : ℕ) → SaysOnly w (orRefused o (reply a)))
     → ((a : ℕ) → Bare (reply a)) → Answers (λ a. orRefused o (reply a)) (says w) enough
-only-answers {w} {o} {reply} given e d only bare = answers d (λ a. ⊎-elim inl (λ f. inr (honest a f)) (only a))
-  where
-    honest : (a : ℕ) → orRefused o (reply a) .word ≡ w → orRefused o (reply a) ≡ says w (orRefused o (reply a) .visits)
-    honest a f =
-        let b : Bare (orRefused o (reply a)) = rw e (bare a) in
-        ⊎-elim (λ r. absurd (given (sym f ∙ r)))
-        (λ q. q ∙ ap (λ (u : Word). says u (orRefused o (reply a) .visits)) f) b
+only-answers {w} {o} {reply} given e d only bare =
+    answers d λ a.
+    let b : Bare (orRefused o (reply a)) = rw e (bare a) in
+    ⊎-elim inl (λ f. ⊎-elim (λ r. absurd (given (sym f ∙ r)))
+    (λ q. inr (q ∙ ap (λ (u : Word). says u (orRefused o (reply a) .visits)) f)) b) (only a)
 
 -- NEAR, of any sound table
 pub near-answers : (ps t : List ℤ) (z : Point) (D : ℤ) → T (sound ps t)

@@ -16,7 +16,7 @@ use Rattle.words.specs.declared.Record.{Record}
 use Rattle.words.specs.declared.Record.the-variants.{Start, Pt, Near, In, Meet, Agree, NotUnderstood}
 use Rattle.words.specs.Fields.{lineFeed}
 use Rattle.words.specs.Records.{longest, recordOf}
-use Rattle.desk.specs.Desk.{Desk, Taken, Store, room, empty, storeOf, putStore, countText}
+use Rattle.desk.specs.Desk.{Desk, Store, room, empty, storeOf, putStore, countText}
 use Rattle.desk.specs.Desk.{refusedAt, quiet, saying, addPoint, takePoint, takeRecord, takeText}
 use Rattle.desk.specs.Chunks.{Carry, begun, keep, carryByte, carryChunk}
 use Rattle.desk.proofs.Chunks.{carried}
@@ -28,20 +28,12 @@ put-counts d LineA s = refl
 put-counts d LineB s = refl
 
 add-counts : (d : Desk) (l : Line) (x y : ℤ) → addPoint d l x y .desk .textLines ≡ d .textLines
-add-counts d l x y = go (ltb (pointsOf (storeOf d l .points)) room)
+add-counts d l x y = go (ltb (pointsOf (storeOf d l .points)) room) _ _
   where
-    behind : Store
-    behind = record { points = storeOf d l .points ++ x ∷ y ∷ []; over = storeOf d l .over }
-
-    past : Store
-    past = record { points = storeOf d l .points; over = true }
-
-    refused : Taken
-    refused = saying (putStore d l past) (refusedAt 13 l (d .textLines))
-
-    go : (k : Bool) → cond k (quiet (putStore d l behind)) refused .desk .textLines ≡ d .textLines
-    go true = put-counts d l behind
-    go false = put-counts d l past
+    go : (k : Bool) (s u : Store) → let refused = saying (putStore d l u) (refusedAt 13 l (d .textLines)) in
+        cond k (quiet (putStore d l s)) refused .desk .textLines ≡ d .textLines
+    go true s u = put-counts d l s
+    go false s u = put-counts d l u
 
 take-counts : (d : Desk) (l : Line) (x y : ℤ) → takePoint d l x y .desk .textLines ≡ d .textLines
 take-counts d NoLine x y = refl

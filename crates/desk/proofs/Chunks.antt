@@ -1,6 +1,6 @@
 -- The output does not depend on how the input is cut into chunks: however it is cut, the program prints what the
 -- definition says of the whole. The bytes kept of the unfinished text line stand for all of its bytes.
-use mathlib.Core.Path.{_≡_, refl, sym, _∙_, ap, subst}
+use mathlib.Core.Path.{_≡_, refl, sym, _∙_, ap}
 use mathlib.Core.Bool.{Bool, true, false, cond}
 use mathlib.Core.List.{List, [], _∷_, _++_, append-assoc, append-nil}
 use mathlib.Core.Logic.{_⊎_, inl, inr}
@@ -30,15 +30,14 @@ long-record text h = simp (lt-leb (length text) longest h)
 stands-taken : (d : Desk) (kept text : List ℕ) → Stands kept text → takeText d kept ≡ takeText d text
 unfolding takeText
 stands-taken d kept text (inl e) = ap (λ (t : List ℕ). takeRecord (countText d) (recordOf t)) e
-stands-taken d kept text (inr h) = ap (takeRecord (countText d)) (long-record kept (h .0) ∙ sym (long-record text (h .1)))
+stands-taken d kept text (inr h) = rw (long-record kept (h .0), long-record text (h .1))
 
 longer : (text : List ℕ) (b : ℕ) → length (text ++ b ∷ []) ≡ length text + 1
 longer text b = length-append text (b ∷ [])
 
 stands-keep : (kept text : List ℕ) (b : ℕ) → Stands kept text → Stands (keep kept b) (text ++ b ∷ [])
 stands-keep kept text b (inr h) =
-    let full : kept ≡ keep kept b = rw (lt-leb (length kept) longest (h .0)) in
-    inr (subst (λ (t : List ℕ). longest < length t) full (h .0), omega (arith, longer text b, h .1))
+    inr (rw (lt-leb (length kept) longest (h .0)) (h .0), omega (arith, longer text b, h .1))
 stands-keep kept text b (inl e) = go (leb (length kept) longest) refl
   where
     go : (k : Bool) → leb (length kept) longest ≡ k → Stands (cond k (kept ++ b ∷ []) kept) (text ++ b ∷ [])
@@ -77,8 +76,7 @@ last-line c text h = go (c .pending) text h
   where
     one : (x : ℕ) (xs kept : List ℕ) → Stands kept (x ∷ xs) →
         bytesOf (takeText (c .desk) kept) ≡ replies (c .desk) ((x ∷ xs) ∷ [])
-    one x xs kept h =
-        ap bytesOf (stands-taken (c .desk) kept (x ∷ xs) h) ∙ sym (append-nil (bytesOf (takeText (c .desk) (x ∷ xs))))
+    one x xs kept h = rw (stands-taken (c .desk) kept (x ∷ xs) h, append-nil)
 
     differ : {X : Type 0} → _≡_ {A = ℕ} 0 1 → X
     differ e = absurd (omega arith)
@@ -109,12 +107,6 @@ module _ (c : Carry) (b : ℕ) where
   unfolding printByte
   print-byte e = ap printing e
 
--- a text line, and then the rest
-replies-first : (d : Desk) (text : List ℕ) (texts : List (List ℕ)) →
-    replies d (text ∷ texts) ≡ bytesOf (takeText d text) ++ replies (takeText d text .desk) texts
-unfolding replies
-replies-first d text texts = refl
-
 -- What a chunk and the end of input print is what the definition says of the text lines.
 abbrev Whole : List ℕ → Type 0
 Whole bs =
@@ -122,38 +114,22 @@ Whole bs =
     printChunk c bs ++ printLast (carryChunk c bs) ≡ replies (c .desk) (attach text (textLines bs))
 
 chunk-then-end : (bs : List ℕ) → Whole bs
-unfolding printChunk carryChunk textLines
+unfolding printByte carryByte printChunk carryChunk textLines replies
 chunk-then-end [] c text h = last-line c text h
-chunk-then-end (b ∷ bs) c text h = go (eqb b lineFeed) refl (chunk-then-end bs)
+chunk-then-end (b ∷ bs) c text h = go (eqb b lineFeed) (chunk-then-end bs)
   where
-    -- what is printed once the byte is passed, and at the end
-    rest : Carry → List ℕ
-    rest d = printChunk d bs ++ printLast (carryChunk d bs)
-
-    passed : {k : Bool} → eqb b lineFeed ≡ k →
-        (printByte c b ++ printChunk (carryByte c b) bs) ++ printLast (carryChunk (carryByte c b) bs)
-        ≡ printing c b k ++ rest (carried c b k)
-    passed {k} q =
-        append-assoc (printByte c b) (printChunk (carryByte c b) bs) (printLast (carryChunk (carryByte c b) bs))
-        ∙ (λ i. print-byte c b q i ++ rest (carry-byte c b q i))
-
     now : takeText (c .desk) (c .pending) ≡ takeText (c .desk) (text ++ [])
     now = stands-taken (c .desk) (c .pending) text h ∙ ap (takeText (c .desk)) (sym (append-nil text))
 
-    go : (k : Bool) → eqb b lineFeed ≡ k → Whole bs →
-        (printByte c b ++ printChunk (carryByte c b) bs) ++ printLast (carryChunk (carryByte c b) bs)
+    go : (k : Bool) → Whole bs → let past = carried c b k in
+        (printing c b k ++ printChunk past bs) ++ printLast (carryChunk past bs)
         ≡ replies (c .desk) (attach text (cond k ([] ∷ textLines bs) (ontoFirst b (textLines bs))))
-    go true q ih =
-        let next = carried c b true in
-        passed q
-        ∙ ap (λ (l : List ℕ). printing c b true ++ l)
-        (ih next [] (inl refl) ∙ ap (replies (next .desk)) (attach-none (textLines bs)))
-        ∙ (λ i. bytesOf (now i) ++ replies (now i .desk) (textLines bs))
-        ∙ sym (replies-first (c .desk) (text ++ []) (textLines bs))
-    go false q ih =
-        passed q
-        ∙ ih (carried c b false) (text ++ b ∷ []) (stands-keep (c .pending) text b h)
-        ∙ ap (replies (c .desk)) (sym (attach-onto text b (textLines bs)))
+    go true ih =
+        rw (append-assoc, ih (carried c b true) [] (inl refl), attach-none (textLines bs))
+        (λ i. bytesOf (now i) ++ replies (now i .desk) (textLines bs))
+    go false ih =
+        rw (attach-onto text b (textLines bs))
+        (ih (carried c b false) (text ++ b ∷ []) (stands-keep (c .pending) text b h))
 
 -- ---------------- chunk after chunk
 
@@ -166,21 +142,15 @@ pub print-append : (c : Carry) (xs ys : List ℕ) →
     printChunk c (xs ++ ys) ≡ printChunk c xs ++ printChunk (carryChunk c xs) ys
 unfolding printChunk carryChunk
 print-append c [] ys = refl
-print-append c (x ∷ xs) ys =
-    let d = carryByte c x in
-    ap (λ (rest : List ℕ). printByte c x ++ rest) (print-append d xs ys)
-    ∙ sym (append-assoc (printByte c x) (printChunk d xs) (printChunk (carryChunk d xs) ys))
+print-append c (x ∷ xs) ys = rw (append-assoc, print-append (carryByte c x) xs ys)
 
 chunks-joined : (c : Carry) (chunks : List (List ℕ)) → let all = joinAll chunks in
     printChunks c chunks ≡ printChunk c all ++ printLast (carryChunk c all)
 unfolding printChunks joinAll printChunk carryChunk
 chunks-joined c [] = refl
 chunks-joined c (chunk ∷ chunks) =
-    let d = carryChunk c chunk in
     let all = joinAll chunks in
-    ap (λ (rest : List ℕ). printChunk c chunk ++ rest) (chunks-joined d chunks)
-    ∙ sym (append-assoc (printChunk c chunk) (printChunk d all) (printLast (carryChunk d all)))
-    ∙ sym (λ i. print-append c chunk all i ++ printLast (carry-append c chunk all i))
+    rw (print-append c chunk all, carry-append c chunk all, append-assoc, chunks-joined (carryChunk c chunk) chunks)
 
 -- however the input is cut into chunks, what is printed is what the definition says of all of it
 pub cut-anyhow : (chunks : List (List ℕ)) → printChunks begun chunks ≡ program (joinAll chunks)

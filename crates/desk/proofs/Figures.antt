@@ -12,7 +12,6 @@ use Rattle.rules.specs.Questions.{shortfall, farFrom, nearVisit, nearReply}
 use Rattle.rules.specs.Build.{lowest, buildRefusal, tableOf}
 use Rattle.numerals.specs.Numerals.{allDigits, valueFrom, numeral}
 use Rattle.words.specs.Fields.{fields, sameBytes}
-use Rattle.words.specs.Numbers.{understood}
 use Rattle.words.specs.Records.{is, recordOf}
 use Rattle.print.specs.Decimal.{digitsOf}
 use Rattle.print.specs.Printed.{printed}
@@ -33,6 +32,6 @@ written =
 
 pub whole-case : program read ≡ written
 unfolding least greatest height better best splitOf rowAt measured rowsOf direction between within walk good shortfall
-    farFrom nearVisit nearReply lowest buildRefusal tableOf fields sameBytes allDigits valueFrom numeral understood
+    farFrom nearVisit nearReply lowest buildRefusal tableOf fields sameBytes allDigits valueFrom numeral
     is recordOf digitsOf printed withTable takeText textLines replies program
 whole-case = refl

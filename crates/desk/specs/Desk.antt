@@ -114,7 +114,8 @@ takeRecord d (Near x y D allowance) =
     saying d (ofA d (λ t. nearReply (d .a .points) t (record { x = x; y = y }) D allowance))
 takeRecord d (In x y allowance) = saying d (ofA d (λ t. inReply (d .a .points) t (record { x = x; y = y }) allowance))
 takeRecord d (Meet allowance) = saying d (ofBoth d (λ t t′. meetReply (d .a .points) t (d .b .points) t′ allowance))
-takeRecord d (Agree D allowance) = saying d (ofBoth d (λ t t′. agreeReply (d .a .points) t (d .b .points) t′ D allowance))
+takeRecord d (Agree D allowance) =
+    saying d (ofBoth d (λ t t′. agreeReply (d .a .points) t (d .b .points) t′ D allowance))
 takeRecord d NotUnderstood = saying d (refusedAt 12 NoLine (d .textLines))
 
 unfoldable pub takeText : Desk → List ℕ → Taken

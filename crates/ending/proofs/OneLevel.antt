@@ -14,7 +14,8 @@ use Rattle.rules.specs.Walk.{next, Visit, refuse, finish, pass, halve, Walked, 
 use Rattle.rules.specs.Questions.{Nothing}
 use Rattle.visits.proofs.Levels.{visited, halved}
 use Rattle.visits.proofs.Levels.{none-left as spent-here}
-use Rattle.ending.specs.Ending.{packed, endIn, ENDED, SPENT, badRow, badSecond, overAt, oddIn, tallyIn, due, walkedIn}
+use Rattle.ending.specs.Ending.{packed, endIn, ENDED, SPENT, badRow, badSecond, overAt, oddIn, tallyIn, due}
+use Rattle.ending.specs.Ending.{walkedIn}
 use Rattle.ending.proofs.Ends.{keeps, reads-over, reads-ended, reads-spent, reads-bad, stops, goes}
 use Rattle.ending.proofs.Dues.{due-stops, reads-bad-due, reads-second-due}
 
@@ -70,7 +71,8 @@ module _ {S N : Type 0} (v : Level S N) where
   -- ---------------- a visit is made; the next tally keeps the allowance
   module _ {counted : Tally} (made : next (v .tally) ≡ Left counted) where
     pub same : (r : ℕ) → says (v .tally) r ≡ says counted r
-    same r = ap (λ (k : ℕ). walkedIn (v .even) (v .odd) (v .first) (v .second) k r) (sym (keeps (v .tally) counted made))
+    same r =
+        ap (λ (k : ℕ). walkedIn (v .even) (v .odd) (v .first) (v .second) k r) (sym (keeps (v .tally) counted made))
 
     -- the visit halves nothing: what it does is what the number says
     ends-here : {r k : ℕ} {w : Visit S N} → r ≡ k → w ≡ v .does (v .node)

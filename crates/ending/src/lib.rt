@@ -14,7 +14,8 @@ ghost use lib.Dec.{leb};
 ghost use Rattle.rules.specs.Tree.{mostRows};
 ghost use Rattle.rules.specs.Walk.{next};
 ghost use Rattle.rules.specs.Questions.{yesOrNo};
-ghost use Rattle.ending.specs.Ending.{packed, visitsIn, endIn, ENDED, overAt, badRow, badSecond, oddIn, refusalIn};
+ghost use Rattle.ending.specs.Ending.{packed, visitsIn, endIn, ENDED, overAt, badRow, badSecond, oddIn};
+ghost use Rattle.ending.specs.Ending.{refusalIn};
 ghost use Rattle.ending.specs.Ending.{tallyIn, due, walkedIn};
 
 // How a walk ended: over, with an even count,

@@ -3,12 +3,13 @@
 -- and ≡.
 use mathlib.Core.Path.{_≡_, refl, sym, _∙_, ap, subst}
 use mathlib.Core.Bool.{Bool, true, false, not, cond}
+use mathlib.Core.Option.{Option, none, some}
 use Prim.Native.Nat.{ℕ, zero, suc, _+_, _*_, _-_, _≤_, _<_}
 use native.Mathlib.Nat.{add-mul, mul-add, mul-assoc}
 use native.Mathlib.Omega.{arith}
 use lib.Dec.{T, ltb, ltb→lt, nltb→le, leb→le, le→leb}
 use lib.IntN.{ℤ, pos, negsuc, negℤ, subℕ, _+ℤ_, _*ℤ_, one, *ℤ-one}
-use lib.Signed.{leZ, ltZ, _≤ℤ_, _<ℤ_, leZ-yes, ltZ-yes}
+use lib.Signed.{_≤ℤ_, _<ℤ_, leZ-yes, ltZ-yes}
 
 -- ---------------- a branch
 
@@ -16,6 +17,17 @@ use lib.Signed.{leZ, ltZ, _≤ℤ_, _<ℤ_, leZ-yes, ltZ-yes}
 pub cond-ind : {A : Type 0} (c : Bool) (x y : A) (Q : A → Type 0) → (T c → Q x) → (T (not c) → Q y) → Q (cond c x y)
 cond-ind true x y Q f g = f tt
 cond-ind false x y Q f g = g tt
+
+-- what holds of a test's yes and of its no, each where it is the test's answer, holds of the test
+pub test-ind : (Q : Bool → Type 0) (b : Bool) → (b ≡ true → Q true) → (b ≡ false → Q false) → Q b
+test-ind Q true f g = f refl
+test-ind Q false f g = g refl
+
+-- and of an option, by whether it holds something
+pub option-ind : {A : Type 0} (Q : Option A → Type 0) (o : Option A) → (o ≡ none → Q none)
+    → ((a : A) → o ≡ some a → Q (some a)) → Q o
+option-ind Q none f g = f refl
+option-ind Q (some a) f g = g a refl
 
 -- ---------------- the two parts of a number
 
@@ -64,13 +76,10 @@ PN-mul (negsuc a) (negsuc b) = omega arith
 -- ---------------- the relations, read and made
 
 pub le-read : {a b : ℤ} → a ≤ℤ b → P a + N b ≤ P b + N a
-le-read {a} {b} h = go a b (h .le)
-  where
-    go : (a b : ℤ) → T (leZ a b) → P a + N b ≤ P b + N a
-    go (pos a) (pos b) t = omega (arith, leb→le a b t)
-    go (pos a) (negsuc b) t = absurd t
-    go (negsuc a) (pos b) t = omega arith
-    go (negsuc a) (negsuc b) t = omega (arith, leb→le b a t)
+le-read {a = pos a} {b = pos b} h = omega (arith, leb→le a b (h .le))
+le-read {a = pos a} {b = negsuc b} h = absurd (h .le)
+le-read {a = negsuc a} {b = pos b} h = omega arith
+le-read {a = negsuc a} {b = negsuc b} h = omega (arith, leb→le b a (h .le))
 
 pub le-make : (a b : ℤ) → P a + N b ≤ P b + N a → a ≤ℤ b
 le-make (pos a) (pos b) h = leZ-yes (le→leb a b (omega arith))
@@ -79,13 +88,10 @@ le-make (negsuc a) (pos b) h = leZ-yes tt
 le-make (negsuc a) (negsuc b) h = leZ-yes (le→leb b a (omega arith))
 
 pub lt-read : {a b : ℤ} → a <ℤ b → P a + N b < P b + N a
-lt-read {a} {b} h = go a b (h .lt)
-  where
-    go : (a b : ℤ) → T (ltZ a b) → P a + N b < P b + N a
-    go (pos a) (pos b) t = omega (arith, ltb→lt a b t)
-    go (pos a) (negsuc b) t = absurd t
-    go (negsuc a) (pos b) t = omega arith
-    go (negsuc a) (negsuc b) t = omega (arith, ltb→lt b a t)
+lt-read {a = pos a} {b = pos b} h = omega (arith, ltb→lt a b (h .lt))
+lt-read {a = pos a} {b = negsuc b} h = absurd (h .lt)
+lt-read {a = negsuc a} {b = pos b} h = omega arith
+lt-read {a = negsuc a} {b = negsuc b} h = omega (arith, ltb→lt b a (h .lt))
 
 pub lt-make : (a b : ℤ) → P a + N b < P b + N a → a <ℤ b
 lt-make (pos a) (pos b) h = ltZ-yes (le→leb (suc a) b (omega arith))

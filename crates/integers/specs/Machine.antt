@@ -15,7 +15,7 @@ use Rattle.integers.specs.Poly.{Expr, var, con, _:+_, _:*_, _:-_, look, 
 use Rattle.integers.specs.Check.{Fun, fill}
 use Rattle.integers.specs.Range.{Abs≤, Each, nil, _&_, bnd, bnd-ok, fits-of}
 use Rattle.integers.specs.Order.{T-iff, eqZ, eqZ-yes, yes-eqZ}
-pub use Rattle.integers.specs.Order.{lt-yes, lt-no, le-yes, le-no}
+pub use Rattle.integers.specs.Order.{lt-yes, lt-no, le-yes}
 
 -- ---------------- what comes in
 

@@ -7,7 +7,7 @@ use lib.Dec.{T, T-not}
 use lib.IntN.{ℤ, pos, _*ℤ_}
 use lib.Signed.{leZ, ltZ, _≤ℤ_, _<ℤ_, leZ-yes, ltZ-yes, ltZ-no, clashℤ, ≤ℤ-refl}
 use mir.Facts.{and-yes, yes-and}
-use Rattle.integers.specs.Laws.{cond-ind, zarith}
+use Rattle.integers.specs.Laws.{cond-ind, test-ind, zarith}
 use Rattle.integers.specs.Check.{con, _:*_, _:≤_, _:<_, hyp, _⊞_, scaled}
 pub use Rattle.integers.specs.Laws.{nn-nat, nn-add, nn-mul, nn-sq}
 
@@ -54,11 +54,8 @@ T-iff false b f g = sym (no-T b g)
 -- ---------------- the tests of two numbers, read and made
 
 pub ≤ℤ-or-<ℤ : (a b : ℤ) → (a ≤ℤ b) ⊎ (b <ℤ a)
-≤ℤ-or-<ℤ a b = go (ltZ b a) refl
-  where
-    go : (t : Bool) → ltZ b a ≡ t → (a ≤ℤ b) ⊎ (b <ℤ a)
-    go true e = inr (ltZ-yes (T-true e))
-    go false e = inl (ltZ-no (T-false e))
+≤ℤ-or-<ℤ a b =
+    test-ind (λ _. (a ≤ℤ b) ⊎ (b <ℤ a)) (ltZ b a) (λ e. inr (ltZ-yes (T-true e))) (λ e. inl (ltZ-no (T-false e)))
 
 -- beside leZ-yes, ltZ-yes and ltZ-no of the library
 pub leZ-no : {a b : ℤ} → T (not (leZ a b)) → b <ℤ a
@@ -90,9 +87,6 @@ lt-no p q e = subst₂ _≤ℤ_ q p (ltZ-no (T-false e))
 
 pub le-yes : {a b x y : ℤ} → a ≡ x → b ≡ y → leZ a b ≡ true → x ≤ℤ y
 le-yes p q e = subst₂ _≤ℤ_ p q (leZ-yes (T-true e))
-
-pub le-no : {a b x y : ℤ} → a ≡ x → b ≡ y → leZ a b ≡ false → y <ℤ x
-le-no p q e = subst₂ _<ℤ_ q p (leZ-no (T-false e))
 
 -- whether a = b
 abbrev pub eqZ : ℤ → ℤ → Bool

@@ -2,13 +2,8 @@
 use mathlib.Core.Path.{_≡_}
 use mathlib.Core.List.{List}
 use mathlib.Core.Option.{none}
-use Prim.Native.Nat.{_*_, _%_}
-use native.Mathlib.Omega.{arith}
-use borrow.Author.Tests.{ltb-false, eqb-false}
 use lib.IntN.{ℤ}
 use Rattle.rules.specs.declared.Line.{Line}
-use Rattle.rules.specs.Sheet.{pointsOf, segmentsOf, fewest, most}
-use Rattle.rules.specs.Tree.{width, rowCount}
 use Rattle.rules.specs.Reply.{firstRefusal}
 use Rattle.rules.specs.Rows.{lengthChecks}
 use Rattle.visits.proofs.Checks.{none-clear, lengths-read}

@@ -8,6 +8,7 @@ use mathlib.Core.Logic.{⊎-elim}
 use lib.Dec.{T}
 use lib.IntN.{ℤ, pos, negsuc, _*ℤ_}
 use lib.Signed.{ltZ, _≤ℤ_, _<ℤ_, ltZ-yes, <ℤ-≤ℤ-trans}
+use Rattle.integers.specs.Laws.{test-ind}
 use Rattle.integers.specs.Poly.{con, _:+_, _:*_}
 use Rattle.integers.specs.Check.{_:≤_, _:<_, _:=_, hyp, mul, _⊞_, _⊠_, prove}
 use Rattle.integers.specs.Order.{no-T, ≤ℤ-or-<ℤ, ≤-<ℤ-trans}
@@ -31,19 +32,11 @@ corner q right upper = record { x = cond right (q .xmax) (q .xmin); y = cond upp
 
 -- what holds at all four holds at each
 at-corner : (q : Row) (S : Point → Bool) → T (atCorners q S) → (i j : Bool) → T (S (corner q i j))
-at-corner q S t = go
-  where
-    at : Bool → Bool → Bool
-    at i j = S (corner q i j)
-
-    s : T (at false false) × T (at false true) × T (at true false) × T (at true true)
-    s = four-yes (at false false) (at false true) (at true false) (at true true) t
-
-    go : (i j : Bool) → T (at i j)
-    go false false = s .0
-    go false true = s .1
-    go true false = s .2
-    go true true = s .3
+at-corner q S t i j =
+    let at : Bool → Bool → Bool = λ i j. S (corner q i j) in
+    let s = four-yes (at false false) (at false true) (at true false) (at true true) t in
+    test-ind (λ i. T (at i j)) i (λ _. test-ind (λ j. T (at true j)) j (λ _. s .3) (λ _. s .2))
+    (λ _. test-ind (λ j. T (at false j)) j (λ _. s .1) (λ _. s .0))
 
 -- of the ends of a range, at one α times the number is greatest, and at the other least
 ends : (α lo x hi : ℤ) → Within lo hi x

@@ -9,17 +9,14 @@ use Rattle.integers.specs.Check.{Stmt, _:<_, _:=_, hyp, mul, _⊞_, _⊠_, prov
 use Rattle.integers.specs.Order.{≤-<ℤ-trans}
 use Rattle.rules.specs.declared.Point.{Point}
 use Rattle.visits.specs.Weights.{Weights, total, mixed}
-use Rattle.visits.proofs.Points.{PointE, refute-of, one-point}
+use Rattle.visits.proofs.Points.{refute-of, one-point}
 use Rattle.visits.proofs.Weights.{weightsE, reversed}
-use Rattle.visits.proofs.Affine.{Affine}
+use Rattle.visits.proofs.Affine.{Affine, affineE}
 use Rattle.meet_truth.specs.Meeting.{Meeting}
 
--- (p·a + q·b) / (p + q) is (r·c + s·d) / (r + s), of numbers; v is an affine function at z
+-- (p·a + q·b) / (p + q) is (r·c + s·d) / (r + s), of numbers
 abbrev pub sameE : Expr → Expr → Expr → Expr → Expr → Expr → Expr → Expr → Stmt
 sameE p q r s a b c d = (r :+ s) :* (p :* a :+ q :* b) := (p :+ q) :* (r :* c :+ s :* d)
-
-abbrev pub affineE : Expr → Expr → Expr → PointE → Expr → Stmt
-affineE α β γ z v = v := α :* z .x :+ β :* z .y :+ γ
 
 -- ---------------- neither the order of the segments nor of their ends matters
 

@@ -21,9 +21,9 @@ use Rattle.visits.proofs.Tests.{≤ℤ-unless}
 use Rattle.visits.proofs.Terms.{c-start}
 use Rattle.visits.proofs.Points.{PointE, stepE, cAtE, ring-of, prove-of, one-point}
 use Rattle.visits.proofs.Weights.{at-start, reversed, between}
-use Rattle.visits.proofs.Affine.{Affine, x-affine, y-affine, c-affine}
+use Rattle.visits.proofs.Affine.{Affine, x-affine, y-affine, c-affine, affineE}
 use Rattle.meet_truth.specs.Meeting.{Meeting}
-use Rattle.meet_truth.proofs.Parted.{sameE, affineE, parted-below, parted-above}
+use Rattle.meet_truth.proofs.Parted.{sameE, parted-below, parted-above}
 use Rattle.meet_truth.proofs.Parted.{meeting-swaps, meeting-reversed}
 use Rattle.meet_truth.proofs.Test.{Overlap, Neither, neither-swaps, across, zeros, cOf, c-reversed}
 use Rattle.meet_truth.proofs.Test.{Passed, passed-read, passed-make}
@@ -83,27 +83,22 @@ stays =
 -- where c falls from c to d, each end is weighed by c at the other end of its segment
 crossed : (a b c d : Point) → Neither (cOf a b c) (cOf a b d) → Neither (cOf c d a) (cOf c d b)
     → cOf a b d <ℤ cOf a b c → Meeting a b c d
-crossed a b c d ab cd l = record {
-  on-ab = between (cOf c d a) (pos 0) (cOf c d b) (of-cd .0) (of-cd .1) rises;
-  on-cd = reversed (between (cOf a b d) (pos 0) (cOf a b c) (of-ab .0) (of-ab .1) l);
-  same =
-      one-point (ring-of 4 0 (λ a b c d. crossE a b c d (a .x) (b .x) (c .x) (d .x)) tt a b c d)
-      (ring-of 4 0 (λ a b c d. crossE a b c d (a .y) (b .y) (c .y) (d .y)) tt a b c d);
-}
+crossed a b c d ab cd l =
+    let rises = falls (cOf a b d) (cOf a b c) (cOf c d a) (cOf c d b) (same-fall a b c d) l in
+    let of-ab = across ab (<ℤ-weaken l) in
+    let of-cd = across (neither-swaps cd) (<ℤ-weaken rises) in
+    record {
+      on-ab = between (cOf c d a) (pos 0) (cOf c d b) (of-cd .0) (of-cd .1) rises;
+      on-cd = reversed (between (cOf a b d) (pos 0) (cOf a b c) (of-ab .0) (of-ab .1) l);
+      same =
+          one-point (ring-of 4 0 (λ a b c d. crossE a b c d (a .x) (b .x) (c .x) (d .x)) tt a b c d)
+          (ring-of 4 0 (λ a b c d. crossE a b c d (a .y) (b .y) (c .y) (d .y)) tt a b c d);
+    }
   where
     crossE : PointE → PointE → PointE → PointE → Expr → Expr → Expr → Expr → Stmt
     crossE a b c d =
         sameE (cOfE c d b :- con (pos 0)) (con (pos 0) :- cOfE c d a)
         (con (pos 0) :- cOfE a b d) (cOfE a b c :- con (pos 0))
-
-    rises : cOf c d a <ℤ cOf c d b
-    rises = falls (cOf a b d) (cOf a b c) (cOf c d a) (cOf c d b) (same-fall a b c d) l
-
-    of-ab : (cOf a b d ≤ℤ pos 0) × (pos 0 ≤ℤ cOf a b c)
-    of-ab = across ab (<ℤ-weaken l)
-
-    of-cd : (cOf c d a ≤ℤ pos 0) × (pos 0 ≤ℤ cOf c d b)
-    of-cd = across (neither-swaps cd) (<ℤ-weaken rises)
 
 -- ---------------- all on one line
 
@@ -171,13 +166,10 @@ module _ {f : Point → ℤ} (h : Affine f) where
   moves : (a b c d : Point) → Level a b c d → Overlap (f a) (f b) (f c) (f d) → Meeting a b c d ⊎ (f a ≡ f c)
   moves a b c d l o =
       ⊎-elim (λ k. ⊎-elim inl (λ cd. c-alone (one-number cd) k) (lower-on a b c d (l .a-on) (l .b-on) k (o .up)))
-      (λ k. ⊎-elim (λ m. inl (meeting-swaps m)) (λ ab. absurd (clashℤ k (a-alone (one-number ab))))
+      (λ k. ⊎-elim (λ m. inl (meeting-swaps m)) (λ ab.
+      let u = one-number ab in absurd (clashℤ k (≤ℤ-trans (o .down) (≤ℤ-trans (u .1) (u .0)))))
       (lower-on c d a b (l .c-on) (l .d-on) (<ℤ-weaken k) (o .down))) (≤ℤ-or-<ℤ (minZ (f c) (f d)) (minZ (f a) (f b)))
     where
-      -- f does not move along a to b
-      a-alone : (f a ≤ℤ minZ (f a) (f b)) × (maxZ (f a) (f b) ≤ℤ f a) → minZ (f c) (f d) ≤ℤ minZ (f a) (f b)
-      a-alone u = ≤ℤ-trans (o .down) (≤ℤ-trans (u .1) (u .0))
-
       -- f does not move along c to d: then c lies on a to b
       c-alone : (f c ≤ℤ minZ (f c) (f d)) × (maxZ (f c) (f d) ≤ℤ f c) → minZ (f c) (f d) ≤ℤ minZ (f a) (f b)
           → Meeting a b c d ⊎ (f a ≡ f c)

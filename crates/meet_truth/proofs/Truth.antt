@@ -30,7 +30,7 @@ use Rattle.rules.specs.Build.{sound}
 use Rattle.visits.specs.Tells.{Right}
 use Rattle.visits.specs.Truthful.{WalkTruthful, Truthful}
 use Rattle.visits.proofs.Runs.{some-none}
-use Rattle.visits.proofs.Checks.{none-clear, clear-none, clear-parts, clear-whole, some-segment, rest-none}
+use Rattle.visits.proofs.Checks.{none-clear, clear-none, clear-parts, clear-whole, both-segments}
 use Rattle.visits.proofs.Told.{right-test}
 use Rattle.visits.proofs.Nodes.{larger-opens, other-opens}
 use Rattle.visits.proofs.Replies.{walk-truthful, reply-truthful, Sure, sure-or-refused}
@@ -120,10 +120,9 @@ pub meet-true : (ps t qs t′ : List ℤ) (allowance : ℕ) → T (sound ps t) �
     → Truthful (plainMeet ps qs) (meetReply ps t qs t′ allowance)
 unfolding meetReply
 meet-true ps t qs t′ allowance sa sb e =
-    let rest = lengthChecks LineB qs t′ in
+    let one = both-segments ps t qs t′ [] e in
     rw e (reply-truthful (plainMeet ps qs) allowance (meetWalk ps t qs t′ (fresh allowance))
-    (meet-tells ps t qs t′ sa sb (some-segment LineA ps t rest e)
-    (some-segment LineB qs t′ [] (rest-none LineA ps t rest e)) (fresh allowance)))
+    (meet-tells ps t qs t′ sa sb (one .0) (one .1) (fresh allowance)))
 
 module _ (ps t qs t′ : List ℤ) (allowance : ℕ) (sound-A : T (sound ps t)) (sound-B : T (sound qs t′)) where
   meet-sure : Sure (plainMeet ps qs) (meetReply ps t qs t′ allowance)

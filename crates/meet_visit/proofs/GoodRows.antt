@@ -1,5 +1,6 @@
 -- What a good row that was read gives: points, a heading and a box for exact arithmetic, and an inner split.
 use mathlib.Core.Path.{_≡_, sym, _∙_, subst, subst₂}
+use mathlib.Core.Bool.{Bool}
 use mathlib.Core.List.{List}
 use Prim.Native.Nat.{_+_, _<_}
 use lib.Dec.{T}
@@ -10,7 +11,7 @@ use Rattle.rules.specs.declared.Row.{Row}
 use Rattle.rules.specs.Plane.{direction}
 use Rattle.rules.specs.Tree.{rowAt}
 use Rattle.rules.specs.Rows.{good}
-use Rattle.rules.specs.Questions.{splitIn, startOf, endOf, headingOf}
+use Rattle.rules.specs.Questions.{splitIn, startOf, endOf, headingOf, apart}
 use Rattle.visits.specs.Nodes.{Inner}
 use Rattle.visits.proofs.Nodes.{GoodRow, good-read}
 use Rattle.limits.specs.Small.{OnSheet}
@@ -35,6 +36,11 @@ pub record EndsRead (ps : List ℤ) (n : Node) (start end : Point) : Type 0 wher
 pub heading-read : {ps : List ℤ} {n : Node} {start end u : Point} → EndsRead ps n start end → u ≡ direction start end
     → u ≡ headingOf ps n
 heading-read e h = h ∙ (λ i. direction (e .starts i) (e .ends i))
+
+pub apart-read : {ps qs : List ℤ} (r q : Row) {m n : Node} {p e p′ e′ u v : Point} {x : Bool} → EndsRead ps m p e
+    → EndsRead qs n p′ e′ → u ≡ direction p e → v ≡ direction p′ e′ → x ≡ apart r p u q p′ v
+    → x ≡ apart r (startOf ps m) (headingOf ps m) q (startOf qs n) (headingOf qs n)
+apart-read r q a b u v h = h ∙ (λ i. apart r (a .starts i) (heading-read a u i) q (b .starts i) (heading-read b v i))
 
 module _ {ps : List ℤ} {r : Row} {n : Node} (d : Read ps r n) where
   told : GoodRow ps r (n .first) (n .last)

@@ -53,7 +53,7 @@ opens-inside : {ps : List ℤ} {r : Row} {m : Node} → Read ps r m → m .first
     → (l : Line) (go : Node → Node → Visit Nothing Pair)
     → let s = splitIn r in
     (go (leftOf m s) (rightOf m s) ≡ openNode l ps m s go) × Inner (m .first) s (m .last)
-opens-inside d h l go = let i = split-inside d h in (sym (opens (d .stands) (i .above) (i .below) l go), i)
+opens-inside d h l go = let i = split-inside d h in (sym (opens (d .stands) i l go), i)
 
 module _ {ps qs : List ℤ} {r q : Row} (n : Pair) (a : Read ps r (n .a)) (b : Read qs q (n .b)) where
   pub compared-does : Does n (compared ps r qs q n) (comparedVisit ps r qs q n)

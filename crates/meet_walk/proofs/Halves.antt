@@ -130,10 +130,10 @@ module _ {k : Side} {ps t qs t′ : List ℤ} {n : Pair} {split : ℕ} (o : Halv
   rightNode = rightOf (nodeOn k n) split
 
   pub left-half : Stands points table leftNode
-  left-half = left-stands (stands-on (o .pair-stands) k .stands) (o .inner .above) (o .inner .below)
+  left-half = left-stands (stands-on (o .pair-stands) k .stands) (o .inner)
 
   pub right-half : Stands points table rightNode
-  right-half = right-stands (stands-on (o .pair-stands) k .stands) (o .inner .above) (o .inner .below)
+  right-half = right-stands (stands-on (o .pair-stands) k .stands) (o .inner)
 
   -- what the row of the node tells, and that of the left half: where they begin and end
   tells : GoodRow points (rowAt table (nodeOn k n .row)) (nodeOn k n .first) (nodeOn k n .last)

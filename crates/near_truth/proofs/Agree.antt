@@ -19,7 +19,6 @@ use Rattle.rules.specs.declared.Line.the-variants.{NoLine, LineA, LineB}
 use Rattle.rules.specs.declared.Refusal.{Refusal}
 use Rattle.rules.specs.declared.Tally.{Tally}
 use Rattle.rules.specs.Sheet.{point, pointsOf, segmentsOf, limit, between, inSheet, onSheet}
-use Rattle.rules.specs.Tree.{rowAt}
 use Rattle.rules.specs.Plain.{everyOf, plainAgree}
 use Rattle.rules.specs.declared.Word.the-variants.{YES, NO}
 use Rattle.rules.specs.Reply.{Check, firstRefusal, orRefused}
@@ -31,7 +30,7 @@ use Rattle.rules.specs.Build.{sound}
 use Rattle.visits.specs.Truthful.{WalkTruthful, Truthful}
 use Rattle.visits.proofs.Tests.{never}
 use Rattle.visits.proofs.Counts.{everyOf-read, everyOf-make}
-use Rattle.visits.proofs.Checks.{some-segment, rest-none}
+use Rattle.visits.proofs.Checks.{both-segments}
 use Rattle.visits.proofs.Replies.{Sure, sure-or-refused}
 use Rattle.visits.proofs.Held.{Within, number-held, held-number}
 use Rattle.visits.proofs.Sound.{root-tree, row-read, row-holds}
@@ -54,13 +53,10 @@ sound-on-sheet : (ps t : List ℤ) → T (sound ps t) → 1 ≤ segmentsOf ps
     → (j : ℕ) → j < pointsOf ps → T (onSheet (point ps j))
 sound-on-sheet ps t held one j below =
     let g = root-tree ps t held one in
-    let r = rowAt t 0 in
     let row = row-read g in
     let k = row-holds g j (omega arith) (omega arith) in
-    let p = point ps j in
-    yes-and (inSheet (p .x)) (inSheet (p .y))
-    (in-between (r .xmin) (r .xmax) (p .x) (row .xmin-in) (row .xmax-in) (k .x))
-    (in-between (r .ymin) (r .ymax) (p .y) (row .ymin-in) (row .ymax-in) (k .y))
+    yes-and (inSheet (point ps j .x)) (inSheet (point ps j .y))
+    (in-between _ _ _ (row .xmin-in) (row .xmax-in) (k .x)) (in-between _ _ _ (row .ymin-in) (row .ymax-in) (k .y))
 
 -- ---------------- the points of one line against the other
 
@@ -193,13 +189,11 @@ module _ (ps t qs t′ : List ℤ) (D : ℤ) (a : ℕ) (held : T (sound ps t)) (
   pub agree-tells : firstRefusal checks ≡ none → (y : Tally) → AgreeTells ps qs D (agreeWalk ps t qs t′ D y)
   unfolding agreeWalk
   agree-tells e y =
-      let rest = lengthChecks LineB qs t′ ++ distanceCheck D ∷ [] in
-      let one = some-segment LineA ps t rest e in
-      let one′ = some-segment LineB qs t′ (distanceCheck D ∷ []) (rest-none LineA ps t rest e) in
+      let one = both-segments ps t qs t′ (distanceCheck D ∷ []) e in
       A-then-B ps qs D (askAll LineA ps LineB qs t′ D 0 (pointsOf ps) y)
       (λ v. askAll LineB qs LineA ps t D 0 (pointsOf qs) v)
-      (ask-tells LineA ps t LineB qs t′ D held one held′ one′ y)
-      (λ v. ask-tells LineB qs t′ LineA ps t D held′ one′ held one v)
+      (ask-tells LineA ps t LineB qs t′ D held (one .0) held′ (one .1) y)
+      (λ v. ask-tells LineB qs t′ LineA ps t D held′ (one .1) held (one .0) v)
 
   -- after its checks AGREE replies the plain answer or UNDECIDED, under every allowance, and refuses nothing
   pub agree-true : firstRefusal checks ≡ none → Truthful (plainAgree ps qs D) (agreeReply ps t qs t′ D a)

@@ -117,7 +117,6 @@ module _ (r : Row) (s u z a b : Point) (D : ℤ) where
   -- and so the exact test of a segment that the row holds says no
   pub far-not-within : Held r s u a → Held r s u b → T (farFrom r s u z D) → within z a b D ≡ false
   far-not-within ha hb far =
-      no-T (within z a b D) (λ t. far-reaches-none (in-strip ha) (in-strip hb) far (reach-of-within z a b D t))
-    where
-      in-strip : {p : Point} → Held r s u p → T (stripHolds r s u p)
-      in-strip {p} h = yes-and (holdsC p) (holdsT p) (held-number (h .c)) (held-number (h .t))
+      let in-strip : (p : Point) → Held r s u p → T (stripHolds r s u p) =
+      λ p h. yes-and (holdsC p) (holdsT p) (held-number (h .c)) (held-number (h .t)) in
+      no-T (within z a b D) (λ t. far-reaches-none (in-strip a ha) (in-strip b hb) far (reach-of-within z a b D t))

@@ -3,8 +3,7 @@ use mathlib.Core.Path.{_≡_, refl, _∙_, ap}
 use mathlib.Core.Bool.{Bool, true, false, cond, _&&_}
 use mathlib.Core.List.{List}
 use Prim.Native.Nat.{ℕ}
-use lib.IntN.{ℤ, pos, _*ℤ_}
-use lib.Signed.{leZ, leZ-yes}
+use lib.IntN.{ℤ, _*ℤ_}
 use mir.Facts.{and-yes}
 use Rattle.integers.specs.Order.{T-true}
 use Rattle.rules.specs.declared.Line.{Line}

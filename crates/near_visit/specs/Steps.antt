@@ -2,7 +2,7 @@
 use mathlib.Core.Path.{_≡_}
 use mathlib.Core.Bool.{Bool, cond}
 use mathlib.Core.List.{List}
-use Prim.Native.Nat.{ℕ, _<_}
+use Prim.Native.Nat.{ℕ}
 use lib.IntN.{ℤ, _*ℤ_}
 use Rattle.rules.specs.declared.Line.{Line}
 use Rattle.rules.specs.declared.Node.{Node}
@@ -13,6 +13,7 @@ use Rattle.rules.specs.Plain.{within}
 use Rattle.rules.specs.Walk.{Visit, refuse, finish, pass, halve}
 use Rattle.rules.specs.Questions.{Nothing, leftOf, rightOf, splitIn, farFrom, nearVisit}
 use Rattle.limits.specs.Small.{OnSheet}
+use Rattle.visits.specs.Nodes.{Inner}
 use Rattle.row.specs.Parts.{leafFits, splitFits}
 use Rattle.row.specs.Stands.{Stands, EndsOn}
 use Rattle.reach.specs.Bounds.{ReachFits}
@@ -48,7 +49,7 @@ abbrev pub SplitsInside : ℕ → ℕ → Step → Type 0
 SplitsInside first last Bad = Unit {0}
 SplitsInside first last Finish = Unit {0}
 SplitsInside first last Pass = Unit {0}
-SplitsInside first last (Halve s) = (first < s) × (s < last)
+SplitsInside first last (Halve s) = Inner first s last
 
 -- what is asked for: a node whose row and points can be read and whose ends are on the sheet, a point and a distance
 abbrev pub Asks : List ℤ → List ℤ → Node → Point → ℤ → Type 0

@@ -1,10 +1,11 @@
--- Bytes written into a slice: one byte, and what stands behind bytes that were written already.
+-- Bytes written into a slice: none, one byte, and what stands behind bytes that were written already.
 use mathlib.Core.Path.{_≡_, refl, sym, _∙_, ap, subst}
 use mathlib.Core.List.{List, [], _∷_, _++_, append-assoc}
 use Prim.Native.Nat.{ℕ, _+_, _≤_, _<_}
+use native.Mathlib.Nat.{add-zero}
 use native.Mathlib.Numerals.{add-one}
 use native.Mathlib.Omega.{arith}
-use lib.ListN.{length, take, drop, set, length-append}
+use lib.ListN.{length, take, drop, set, length-append, length-take, take-append-drop}
 use lib.Seq.{length-take-le, take-at, drop-at, drop-drop, take-length, set-split, paste}
 use Rattle.print.specs.Put.{Put}
 
@@ -16,6 +17,10 @@ put-same {d} {xs} {ys} {e} {at} {i} same = subst (λ (bytes : List ℕ). Put d a
 pub put-case : {A : Type 0} (bytes : A → List ℕ) {x y : A} {d e : List ℕ} {at i : ℕ} → x ≡ y → Put d at (bytes y) e i →
     Put d at (bytes x) e i
 put-case bytes same p = put-same (ap bytes (sym same)) p
+
+-- Nothing written leaves all as it was.
+pub put-none : (d : List ℕ) (at : ℕ) → Put d at [] d at
+put-none d at = record { written = rw add-zero (sym (take-append-drop at d)); behind = omega arith }
 
 -- A store writes one byte.
 pub put-one : (d : List ℕ) (at b : ℕ) → at < length d → Put d at (b ∷ []) (set d at b) (at + 1)
@@ -51,6 +56,14 @@ module _ (d : List ℕ) (at : ℕ) (inside : at ≤ length d) (xs : List ℕ) wh
         written = q .written ∙ (λ t. front p t ++ (ys ++ past t)) ∙ simp append-assoc;
         behind = omega arith;
       }
+
+-- What is written from the start stands at the front, within the slice.
+module _ {d xs e : List ℕ} {i : ℕ} (p : Put d 0 xs e i) where
+  pub put-front : take i e ≡ xs
+  put-front = front d 0 (omega arith) xs p
+
+  pub put-within : i ≤ length e
+  put-within = omega (arith, ap length put-front, length-take i e, p .behind)
 
 -- A whole copy writes the bytes copied.
 pub put-all : (d : List ℕ) (at : ℕ) (xs : List ℕ) {e : List ℕ} {n : ℕ} → e ≡ paste d at xs n → n ≡ length xs →

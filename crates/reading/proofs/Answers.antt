@@ -11,9 +11,9 @@ use lib.ListN.{length, take, length-take, length-append}
 use lib.Seq.{take-all}
 use lib.Signed.{ltZ}
 use Rattle.io.specs.Counts.{clamped}
+use Rattle.print.proofs.Writing.{put-within}
 use Rattle.store.specs.declared.State.{State}
 use Rattle.byte.specs.declared.Fed.{Fed}
-use Rattle.store.proofs.Written.{put-within}
 use Rattle.records.specs.Left.{Slices}
 use Rattle.byte.specs.Feeds.{Feeds}
 use Rattle.chunks.specs.Finishes.{Finishes}

@@ -1,16 +1,18 @@
 -- How a question goes on once it is known whether the tables stand ready.
-use mathlib.Core.Path.{_≡_, sym, ap, _∙_, subst⁻¹}
+use mathlib.Core.Path.{_≡_, refl, sym, ap, _∙_, subst⁻¹}
 use mathlib.Core.Bool.{true, cond, and-eq-true-iff}
 use mathlib.Core.List.{List}
 use Prim.Native.Nat.{ℕ}
 use lib.IntN.{ℤ}
+use Rattle.rules.specs.declared.Line.the-variants.{LineA}
 use Rattle.rules.specs.declared.Reply.{Reply}
+use Rattle.rules.specs.Build.{tableOf}
 use Rattle.desk.specs.Desk.{Store}
 use Rattle.ready.specs.declared.Needed.{Needed}
 use Rattle.ready.specs.declared.Needed.the-variants.{NoTable, TableA, BothTables}
 use Rattle.ready.specs.declared.Readied.{Readied}
 use Rattle.ready.specs.declared.Readied.the-variants.{Ready}
-use Rattle.ready.specs.Readied.{readiedReply, goesOn, Rows, HasRows, Readies}
+use Rattle.ready.specs.Readied.{readiedReply, goesOn, Rows, HasRows, ReadiesLine, Readies}
 use Rattle.ready.specs.Left.{isReady, tableAfter}
 use Rattle.ready.proofs.Tables.{rows-ready}
 
@@ -38,3 +40,19 @@ pub needed-are : {k k′ : Needed} {a b : Store} {place : ℕ} {tableA tableB le
     → Readies k′ a b place tableA tableB r leftA leftB → Readies k a b place tableA tableB r leftA leftB
 needed-are {k} {k′} {a} {b} {place} {tableA} {tableB} {leftA} {leftB} {r} e =
     subst⁻¹ (λ (k : Needed). Readies k a b place tableA tableB r leftA leftB) e
+
+-- none is needed, or A's alone
+pub no-table : {k : Needed} {a b : Store} {place : ℕ} {tableA tableB : List ℤ} → k ≡ NoTable
+    → Readies k a b place tableA tableB Ready tableA tableB
+no-table e = needed-are e (record { reply = λ go. refl; goes = refl; first = refl; second = refl })
+
+pub table-a : {k : Needed} {a b : Store} {place : ℕ} {tableA tableB leftA : List ℤ} {r : Readied} → k ≡ TableA
+    → ReadiesLine LineA a place tableA r leftA → Readies k a b place tableA tableB r leftA tableB
+table-a {b = b} e r =
+    needed-are e
+    (record {
+      reply = λ go. r .reply (λ t. go t (tableOf (b .points)));
+      goes = r .goes;
+      first = r .left;
+      second = refl;
+    })

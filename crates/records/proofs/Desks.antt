@@ -80,10 +80,10 @@ ready e k =
     })
 
 -- What the record comes to is what the text line comes to, and leaves what the text line leaves.
-pub line-takes : (s : State) {u : State} (text : List ℕ) {q : Record} {r : Outcome} (n : Numbers) {after : Numbers}
+pub line-takes : (s : State) {u : State} (text : List ℕ) {q : Record} {r : Outcome} (n after : Numbers)
     → u ≡ counted s → q ≡ recordOf text → TakesRecord u q n r after → TakesText s text n r after
 unfolding takeText textLeft
-line-takes s text {q} {r} n {after} e f t =
+line-takes s text {q} {r} n after e f t =
     subst (λ (q : Record). TakesRecord (counted s) q n r after) f (subst (λ (u : State). TakesRecord u q n r after) e t)
 
 -- ---------------- LINE empties its line, and points go there

@@ -245,14 +245,11 @@ module _ (ps t qs t′ : List ℤ) (D : ℤ) (a : ℕ) where
     pub agree-late : (k : ℕ) → 0 < k → agreed a (agreeWalk ps t qs t′ D (fresh a)) .number ≡ k
         → Late k (agreed a (agreeWalk ps t qs t′ D (fresh a)))
     agree-late k p h =
-        ⊎-elim (λ z. absurd (omega arith)) (λ w. go (w .0) (w .1)) (agreed-else a (agreeWalk ps t qs t′ D (fresh a)))
-      where
-        go : (r : Refusal) → agreeWalk ps t qs t′ D (fresh a) ≡ faulted r
-            → Late k (agreed a (agreeWalk ps t qs t′ D (fresh a)))
-        go r w =
-            let f = agree-fault r w in
-            let n : k ≡ r .number = sym h ∙ ap (λ (x : Asked). agreed a x .number) w in
-            subst (λ (x : Asked). Late k (agreed a x)) (sym w)
-            (⊎-elim (λ o. inl (record { unrefused = e; at = comes-map f (o .0) }, n ∙ o .1))
-            (λ b. inr (comes-map f (b .0), n ∙ b .1))
-            (cause-read r (f .line) (f .index) (f .tally) (f .reached) (f .has)))
+        ⊎-elim (λ z. absurd (omega arith)) (λ w.
+        let f = agree-fault (w .0) (w .1) in
+        let n : k ≡ w .0 .number = sym h ∙ ap (λ (x : Asked). agreed a x .number) (w .1) in
+        subst (λ (x : Asked). Late k (agreed a x)) (sym (w .1))
+        (⊎-elim (λ o. inl (record { unrefused = e; at = comes-map f (o .0) }, n ∙ o .1))
+        (λ b. inr (comes-map f (b .0), n ∙ b .1))
+        (cause-read (w .0) (f .line) (f .index) (f .tally) (f .reached) (f .has))))
+        (agreed-else a (agreeWalk ps t qs t′ D (fresh a)))

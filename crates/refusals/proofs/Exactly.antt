@@ -1,4 +1,4 @@
--- Each question's refusals before its walk, exactly; AGREE's 8, exactly; and no 11.
+-- Each question's refusals before its walk, exactly; and AGREE's 8, exactly.
 use mathlib.Core.Path.{_≡_, ap, _∙_}
 use mathlib.Core.List.{List}
 use mathlib.Core.Logic.{_↔_, _≢_, ⊎-elim}
@@ -16,7 +16,7 @@ use Rattle.rules.specs.Questions.{agreeWalk, agreed, agreeReply}
 use Rattle.refusals.specs.Reason.{Reason}
 use Rattle.refusals.specs.Named.{offRefusal, PointOff}
 use Rattle.refusals.proofs.First.{reason-refuses, number-exactly, after-read}
-use Rattle.refusals.proofs.Questions.{near-question, in-question, meet-question, early-exactly, no-more}
+use Rattle.refusals.proofs.Questions.{near-question, in-question, meet-question, early-exactly}
 use Rattle.refusals.proofs.Asking.{comes-map, fault-agree, off-cause, agree-late}
 
 -- ---------------- NEAR
@@ -33,11 +33,6 @@ module _ (ps t : List ℤ) (z : Point) (D : ℤ) (a : ℕ) where
   unfolding nearReply
   near-refuses = reason-refuses (nearChecks ps t z D) _
 
-  -- 11 never comes
-  pub near-no-11 : nearReply ps t z D a .number ≢ 11
-  unfolding nearReply
-  near-no-11 = no-more (near-question ps t z D) a 11 (omega arith)
-
 -- ---------------- MEET
 
 module _ (ps t qs t′ : List ℤ) (a : ℕ) where
@@ -50,10 +45,6 @@ module _ (ps t qs t′ : List ℤ) (a : ℕ) where
   unfolding meetReply
   meet-refuses = reason-refuses (meetChecks ps t qs t′) _
 
-  pub meet-no-11 : meetReply ps t qs t′ a .number ≢ 11
-  unfolding meetReply
-  meet-no-11 = no-more (meet-question ps t qs t′) a 11 (omega arith)
-
 -- ---------------- IN
 
 module _ (ps t : List ℤ) (z : Point) (a : ℕ) where
@@ -65,10 +56,6 @@ module _ (ps t : List ℤ) (z : Point) (a : ℕ) where
   pub in-refuses : (f : Refusal) → Reason (inChecks ps t z) f → inReply ps t z a ≡ refuses f
   unfolding inReply
   in-refuses = reason-refuses (inChecks ps t z) _
-
-  pub in-no-11 : inReply ps t z a .number ≢ 11
-  unfolding inReply
-  in-no-11 = no-more (in-question ps t z) a 11 (omega arith)
 
 -- ---------------- AGREE
 
@@ -105,10 +92,3 @@ module _ (ps t qs t′ : List ℤ) (D : ℤ) (a : ℕ) where
         ⊎-elim (λ o. o .0) (λ b. absurd (omega (arith, b .1))) (agree-late ps t qs t′ D a e 8 (omega arith) h),
     λ h. ap (λ (q : Reply). q .number) (agree-off-refuses h),
   )
-
-  -- 11 never comes
-  pub agree-no-11 : agreeReply ps t qs t′ D a .number ≢ 11
-  unfolding agreeReply
-  agree-no-11 =
-      after-read 8 11 (agreeChecks ps t qs t′ D) _ (λ _. ⊥) tt (omega arith) λ e h.
-      ⊎-elim (λ o. omega (arith, o .1)) (λ b. omega (arith, b .1)) (agree-late ps t qs t′ D a e 11 (omega arith) h)

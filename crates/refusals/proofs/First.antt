@@ -1,7 +1,7 @@
 -- The first check that holds is the refusal that is told: one theorem over lists of checks, read at the build and at
 -- any reply that checks come before.
 use mathlib.Core.Path.{_≡_, refl, sym, _∙_, ap, subst}
-use mathlib.Core.Bool.{Bool, true, false, cond, _&&_}
+use mathlib.Core.Bool.{Bool, true, cond, _&&_}
 use mathlib.Core.List.{List, [], _∷_}
 use mathlib.Core.Logic.{_↔_, _≢_}
 use mathlib.Core.Option.{Option, none, some}
@@ -10,6 +10,7 @@ use native.Mathlib.Omega.{arith}
 use lib.Dec.{T, ltb, ltb→lt}
 use lib.IntN.{ℤ}
 use mir.Facts.{and-yes}
+use Rattle.integers.specs.Laws.{test-ind, option-ind}
 use Rattle.rules.specs.declared.Refusal.{Refusal}
 use Rattle.rules.specs.declared.Reply.{Reply}
 use Rattle.rules.specs.Reply.{Check, early, firstRefusal, orRefused, refuses}
@@ -20,21 +21,19 @@ use Rattle.refusals.specs.Reason.{Reason}
 
 first-reason : (ks : List Check) (f : Refusal) → firstRefusal ks ≡ some f → Reason ks f
 first-reason [] f e = never (cc)
-first-reason (k ∷ ks) f e = go (k .holds) refl e (first-reason ks f)
-  where
-    go : (b : Bool) → k .holds ≡ b → cond b (some (early k)) (firstRefusal ks) ≡ some f
-        → (firstRefusal ks ≡ some f → Reason ks f) → Reason (k ∷ ks) f
-    go true h e ih = record { earlier = []; check = k; later = ks; parts = refl; clear = tt; holds = h; told = cc }
-    go false h e ih =
-        let r = ih e in record {
-          earlier = k ∷ r .earlier;
-          check = r .check;
-          later = r .later;
-          parts = ap (k ∷_) (r .parts);
-          clear = (h, r .clear);
-          holds = r .holds;
-          told = r .told;
-        }
+first-reason (k ∷ ks) f e =
+    test-ind (λ b. cond b (some (early k)) (firstRefusal ks) ≡ some f → Reason (k ∷ ks) f) (k .holds)
+    (λ h q. record { earlier = []; check = k; later = ks; parts = refl; clear = tt; holds = h; told = cc })
+    (λ h q.
+    let r = first-reason ks f q in record {
+      earlier = k ∷ r .earlier;
+      check = r .check;
+      later = r .later;
+      parts = ap (k ∷_) (r .parts);
+      clear = (h, r .clear);
+      holds = r .holds;
+      told = r .told;
+    }) e
 
 reason-first : (ks : List Check) (f : Refusal) → Reason ks f → firstRefusal ks ≡ some f
 reason-first ks f r =
@@ -60,13 +59,11 @@ module _ (ks : List Check) (r : Reply) where
   -- holds has it
   pub number-exactly : (k : ℕ) → (firstRefusal ks ≡ none → r .number ≢ k)
       → (orRefused (firstRefusal ks) r .number ≡ k) ↔ ((f : Refusal) × Reason ks f × (f .number ≡ k))
-  number-exactly k late =
-      (go (firstRefusal ks) refl, λ h. ap (λ (q : Reply). q .number) (reason-refuses (h .0) (h .1)) ∙ h .2)
-    where
-      go : (o : Option Refusal) → firstRefusal ks ≡ o → orRefused o r .number ≡ k
-          → (f : Refusal) × Reason ks f × (f .number ≡ k)
-      go none e h = absurd (late e h)
-      go (some f) e h = (f, first-reason ks f e, h)
+  number-exactly k late = (
+    option-ind (λ o. orRefused o r .number ≡ k → (f : Refusal) × Reason ks f × (f .number ≡ k)) (firstRefusal ks)
+        (λ e h. absurd (late e h)) (λ f e h. (f, first-reason ks f e, h)),
+    λ h. ap (λ (q : Reply). q .number) (reason-refuses (h .0) (h .1)) ∙ h .2,
+  )
 
 -- ---------------- a number above those of the checks
 
@@ -80,19 +77,14 @@ first-below : (k : ℕ) (cs : List Check) (f : Refusal) → T (below k cs) → f
 first-below k [] f h e = never (cc)
 first-below k (c ∷ cs) f h e =
     let p = and-yes (ltb (c .number) k) (below k cs) h in
-    go (c .holds) e (ltb→lt _ _ (p .0)) (first-below k cs f (p .1))
-  where
-    go : (b : Bool) → cond b (some (early c)) (firstRefusal cs) ≡ some f → c .number < k
-        → (firstRefusal cs ≡ some f → f .number < k) → f .number < k
-    go true e l ih = let q : early c ≡ f = cc in subst (λ (g : Refusal). g .number < k) q l
-    go false e l ih = ih e
+    test-ind (λ b. cond b (some (early c)) (firstRefusal cs) ≡ some f → f .number < k) (c .holds)
+    (λ _ q. let s : early c ≡ f = cc in subst (λ (g : Refusal). g .number < k) s (ltb→lt _ _ (p .0)))
+    (λ _. first-below k cs f (p .1)) e
 
 -- a reply with a number that is above those of its checks comes after them
 pub after-read : (j k : ℕ) (cs : List Check) (r : Reply) (P : Reply → Type 0) → T (below j cs) → j ≤ k
     → (firstRefusal cs ≡ none → r .number ≡ k → P r) → orRefused (firstRefusal cs) r .number ≡ k
     → P (orRefused (firstRefusal cs) r)
-after-read j k cs r P h l f = go (firstRefusal cs) refl
-  where
-    go : (o : Option Refusal) → firstRefusal cs ≡ o → orRefused o r .number ≡ k → P (orRefused o r)
-    go none e q = f e q
-    go (some g) e q = let m = first-below j cs g h e in absurd (omega arith)
+after-read j k cs r P h l f =
+    option-ind (λ o. orRefused o r .number ≡ k → P (orRefused o r)) (firstRefusal cs) f
+    (λ g e q. let m = first-below j cs g h e in absurd (omega arith))

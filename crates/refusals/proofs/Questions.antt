@@ -3,33 +3,34 @@
 use mathlib.Core.Path.{_≡_, refl, sym, _∙_, ap, subst}
 use mathlib.Core.Bool.{Bool, true, false, cond, _&&_}
 use mathlib.Core.List.{List, [], _∷_, _++_}
-use mathlib.Core.Logic.{_↔_, _≢_, _⊎_, inl, inr, ⊎-elim}
+use mathlib.Core.Logic.{_↔_, _⊎_, inl, inr, ⊎-elim}
 use mathlib.Core.Option.{Option, none, some}
 use Prim.Native.Nat.{ℕ, _+_, _<_}
 use native.Mathlib.Omega.{arith}
 use lib.Dec.{T, T-not, leb, leb→le, nleb→lt}
 use lib.IntN.{ℤ}
 use lib.ListN.{length, length-append}
+use Rattle.visits.proofs.Visits.{nodeVisit, pairApart, pairShares}
+use Rattle.integers.specs.Laws.{option-ind}
 use Rattle.rules.specs.declared.Line.{Line}
 use Rattle.rules.specs.declared.Line.the-variants.{LineA, LineB}
 use Rattle.rules.specs.declared.Node.{Node}
 use Rattle.rules.specs.declared.Pair.{Pair}
 use Rattle.rules.specs.declared.Point.{Point}
 use Rattle.rules.specs.declared.Refusal.{Refusal}
-use Rattle.rules.specs.declared.Row.{Row}
 use Rattle.rules.specs.declared.Tally.{Tally}
 use Rattle.rules.specs.Sheet.{segmentsOf}
 use Rattle.rules.specs.Tree.{rowAt, rowCount}
-use Rattle.rules.specs.Plain.{within, share, onSegment}
+use Rattle.rules.specs.Plain.{within, onSegment}
 use Rattle.rules.specs.declared.Reply.{Reply}
 use Rattle.rules.specs.Reply.{Check, firstRefusal, orRefused, refuses}
 use Rattle.rules.specs.Rows.{good, lengthChecks, distanceCheck, askedCheck, ringCheck}
 use Rattle.rules.specs.Walk.{Visit, finish, pass, halve, Walked, ended, over, spent, refused, fresh, walk}
 use Rattle.rules.specs.Questions.{root, leftOf, rightOf, leaf, size, Nothing, splitIn, readRow, openNode, startOf}
-use Rattle.rules.specs.Questions.{endOf, headingOf, farFrom, nearVisit, yesOrNo, nearChecks, apart, meetVisit}
+use Rattle.rules.specs.Questions.{endOf, headingOf, farFrom, nearVisit, yesOrNo, nearChecks, meetVisit}
 use Rattle.rules.specs.Questions.{meetChecks, clearOf, inVisit, sideOfRing, inChecks}
 use Rattle.visits.specs.Nodes.{Fits, RowGood}
-use Rattle.visits.proofs.Checks.{some-segment, rest-none}
+use Rattle.visits.proofs.Checks.{some-segment, both-segments}
 use Rattle.visits.proofs.Nodes.{good-read, root-fits, fits-left, fits-right, open-fits, larger-opens, other-opens}
 use Rattle.refusals.specs.Reason.{Reason}
 use Rattle.refusals.specs.Trace.{visitsOf}
@@ -71,16 +72,13 @@ module _ {S N : Type 0} {Fine : N → Type 0} {Good : Type 0} {Bad : Line → �
 
 -- a visit of one node: its row is bad, or it is dismissed, or a leaf gets the exact test, or its halves are visited
 module _ {S : Type 0} (l : Line) (ps t : List ℤ) (n : Node) (f : In ps n) where
-  node-sees : (dismissed : Row → Bool) (exact : Bool) (g h : S → S)
-      → Sees (In ps) (RowGood ps t n) (RowBad l ps t n)
-      (readRow l ps t n λ r.
-      cond (dismissed r) (pass g) (cond (leaf n) (cond exact finish (pass h)) (openNode l ps n (splitIn r) halve)))
-      (readRow l ps t n λ r.
-      cond (dismissed r) (pass g)
+  node-sees : (dismissed exact : Bool) (h : S → S)
+      → Sees (In ps) (RowGood ps t n) (RowBad l ps t n) (nodeVisit l ps t n dismissed exact h) (readRow l ps t n λ r.
+      cond dismissed (pass h)
       (cond (leaf n) (cond exact finish (pass h)) (halve (leftOf n (splitIn r)) (rightOf n (splitIn r)))))
-  node-sees dismissed exact g h =
+  node-sees dismissed exact h =
       read l ps t n f (λ b. (b, refl, refl)) λ good.
-      sees-cond (dismissed (rowAt t (n .row))) (λ _. passes good) λ _.
+      sees-cond dismissed (λ _. passes good) λ _.
       sees-cond (leaf n) (λ _. sees-cond exact (λ _. finishes good) (λ _. passes good)) λ e.
       opened l ps t n f halve good (nleb→lt _ _ e) (λ a b p q. halves good p q)
 
@@ -88,15 +86,15 @@ pub near-sees : (l : Line) (ps t : List ℤ) (z : Point) (D : ℤ) (n : Node) �
     → Sees (In ps) (RowGood ps t n) (RowBad l ps t n) (nearVisit l ps t z D n) (nearVisitUnchecked l ps t z D n)
 unfolding nearVisit nearVisitUnchecked
 near-sees l ps t z D n f =
-    node-sees l ps t n f (λ r. farFrom r (startOf ps n) (headingOf ps n) z D)
-    (within z (startOf ps n) (endOf ps n) D) _ _
+    node-sees l ps t n f (farFrom (rowAt t (n .row)) (startOf ps n) (headingOf ps n) z D)
+    (within z (startOf ps n) (endOf ps n) D) _
 
 pub in-sees : (ps t : List ℤ) (z : Point) (n : Node) → In ps n
     → Sees (In ps) (RowGood ps t n) (RowBad LineA ps t n) (inVisit ps t z n) (inVisitUnchecked ps t z n)
 unfolding inVisit inVisitUnchecked
 in-sees ps t z n f =
-    node-sees LineA ps t n f (λ r. clearOf r (startOf ps n) (headingOf ps n) z)
-    (onSegment z (startOf ps n) (endOf ps n)) _ _
+    node-sees LineA ps t n f (clearOf (rowAt t (n .row)) (startOf ps n) (headingOf ps n) z)
+    (onSegment z (startOf ps n) (endOf ps n)) _
 
 pub meet-sees : (ps t qs t′ : List ℤ) (n : Pair) → Both ps qs n
     → Sees (Both ps qs) (PairGood ps t qs t′ n) (PairBad ps t qs t′ n) (meetVisit ps t qs t′ n)
@@ -107,14 +105,9 @@ meet-sees ps t qs t′ n f =
     let b = n .b in
     read LineA ps t a (f .0) (λ e. inl (e, refl, refl)) λ g.
     read LineB qs t′ b (f .1) (λ e. inr (g, (e, refl, refl))) λ h.
-    sees-cond
-    (apart (rowAt t (a .row)) (startOf ps a) (headingOf ps a) (rowAt t′ (b .row)) (startOf qs b) (headingOf qs b))
-    (λ _. passes (g, h)) λ _.
+    sees-cond (pairApart ps t qs t′ n) (λ _. passes (g, h)) λ _.
     sees-cond (leaf a && leaf b)
-    (λ _.
-    sees-cond (share (startOf ps a) (endOf ps a) (startOf qs b) (endOf qs b))
-    (λ _. finishes (g, h)) (λ _. passes (g, h)))
-    λ e.
+    (λ _. sees-cond (pairShares ps qs n) (λ _. finishes (g, h)) (λ _. passes (g, h))) λ e.
     sees-cond (leb (size b) (size a))
     (λ k.
     opened LineA ps t a (f .0) _ g (larger-opens a b e (leb→le _ _ k)) (λ l r p q. halves (g, h) (p, f .1) (q, f .1)))
@@ -217,10 +210,7 @@ pub both-stand : (ps t qs t′ : List ℤ) (rest : List Check)
     → firstRefusal (lengthChecks LineA ps t ++ (lengthChecks LineB qs t′ ++ rest)) ≡ none
     → In ps (root ps) × In qs (root qs)
 both-stand ps t qs t′ rest e =
-    let of-B = lengthChecks LineB qs t′ ++ rest in (
-      root-fits ps (some-segment LineA ps t of-B e),
-      root-fits qs (some-segment LineB qs t′ rest (rest-none LineA ps t of-B e)),
-    )
+    let one = both-segments ps t qs t′ rest e in (root-fits ps (one .0), root-fits qs (one .1))
 
 abbrev pub meet-question : List ℤ → List ℤ → List ℤ → List ℤ → Question Nothing Pair
 meet-question ps t qs t′ = record {
@@ -239,14 +229,12 @@ meet-question ps t qs t′ = record {
 -- an early refusal has no visits, so a reply that has met a bad row is none
 pub bad-late : {N : Type 0} {Good : N → Type 0} {Bad : N → Line → ℕ → Type 0} (ks : List Check) (r : Reply)
     (nodes : List N) (y : Tally) → FirstBad Good Bad nodes y (orRefused (firstRefusal ks) r) → firstRefusal ks ≡ none
-bad-late {Good = Good} {Bad = Bad} ks r nodes y = go (firstRefusal ks) refl
-  where
-    go : (o : Option Refusal) → firstRefusal ks ≡ o → FirstBad Good Bad nodes y (orRefused o r) → firstRefusal ks ≡ none
-    go none e h = e
-    go (some f) e h =
-        let visits : f .visits ≡ 0 = ap (λ (g : Refusal). g .visits) (first-exactly ks f .0 e .told) in
-        let more = ap length (h .parts) ∙ length-append (h .before) (h .last ∷ []) in
-        absurd (omega (arith, h .counted))
+bad-late {Good = Good} {Bad = Bad} ks r nodes y =
+    option-ind (λ o. FirstBad Good Bad nodes y (orRefused o r) → firstRefusal ks ≡ none) (firstRefusal ks) (λ e h. e)
+    (λ f e h.
+    let visits : f .visits ≡ 0 = ap (λ (g : Refusal). g .visits) (first-exactly ks f .0 e .told) in
+    let more = ap length (h .parts) ∙ length-append (h .before) (h .last ∷ []) in
+    absurd (omega (arith, h .counted)))
 
 -- what comes after the checks need be the same only where none of them refuses
 pub after-checks : (o : Option Refusal) (r q : Reply) → (o ≡ none → r ≡ q) → orRefused o r ≡ orRefused o q
@@ -277,23 +265,16 @@ module _ {S N : Type 0} (q : Question S N) (a : ℕ) where
 
   -- after the checks a number is that of a refused walk: 10, at the first bad row
   late : firstRefusal checks ≡ none → (k : ℕ) → 0 < k → reply a came .number ≡ k → Named (reply a came) × (k ≡ 10)
-  late e k p h = ⊎-elim (λ z. absurd (omega arith)) (λ w. go (w .0) (w .1)) (else a came)
-    where
-      go : (r : Refusal) → came ≡ refused r → Named (reply a came) × (k ≡ 10)
-      go r w =
-          let b = first-bad visits levels first count (fresh a) (fine e) r w in
-          let s = reply-at r w in
-          (subst Named (sym s) (b .0), sym h ∙ ap (λ (x : Reply). x .number) s ∙ b .1)
+  late e k p h =
+      ⊎-elim (λ z. absurd (omega arith)) (λ w.
+      let b = first-bad visits levels first count (fresh a) (fine e) (w .0) (w .1) in
+      let s = reply-at (w .0) (w .1) in
+      (subst Named (sym s) (b .0), sym h ∙ ap (λ (x : Reply). x .number) s ∙ b .1)) (else a came)
 
   -- it replies with a number below 10 exactly if the first of its checks that holds has that number
   pub early-exactly : (k : ℕ) → 0 < k → k < 10
       → (replied .number ≡ k) ↔ ((f : Refusal) × Reason checks f × (f .number ≡ k))
   early-exactly k p u = number-exactly checks _ k (λ e h. let ten = late e k p h .1 in omega arith)
-
-  -- it replies no number above 10
-  pub no-more : (k : ℕ) → 10 < k → replied .number ≢ k
-  no-more k l =
-      after-read 10 k checks _ (λ _. ⊥) few (omega arith) λ e h. let ten = late e k (omega arith) h .1 in omega arith
 
   -- it replies 10 exactly where a row that is visited is bad for the range handed down to it, and names the first such
   pub ten-exactly : (replied .number ≡ 10) ↔ Named replied

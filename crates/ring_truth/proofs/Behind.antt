@@ -10,6 +10,7 @@ use Prim.Native.Nat.{ℕ, zero, suc, _+_, _≤_, _<_}
 use native.Mathlib.Omega.{arith}
 use lib.IntN.{ℤ, pos}
 use lib.Signed.{leZ, ltZ, _<ℤ_, leZ-yes, ltZ-yes}
+use Rattle.integers.specs.Laws.{test-ind}
 use Rattle.integers.specs.Poly.{Expr, con, _:+_, _:*_, _:-_}
 use Rattle.integers.specs.Check.{Stmt, _:≤_, _:<_, Cert, hyp, num, mul, _⊞_, _⊠_}
 use Rattle.integers.specs.Order.{T-iff, le-not, lt-yes, lt-no, no-T}
@@ -20,8 +21,7 @@ use Rattle.rules.specs.Plain.{onSegment, sideOf, crosses, joined, _⊕_, oddOf,
 use Rattle.visits.proofs.Tests.{≤ℤ-unless, <ℤ-unless}
 use Rattle.visits.proofs.Points.{PointE, tAtE, refute-of}
 use Rattle.visits.proofs.Weights.{mean-above}
-use Rattle.visits.proofs.Counts.{joined-same}
-use Rattle.ring_truth.specs.OnEdge.{Lies}
+use Rattle.visits.proofs.Counts.{joined-same, ⊕-assoc}
 use Rattle.ring_truth.proofs.OnEdge.{meanE, on-lies}
 
 -- p is strictly behind z in the direction d
@@ -87,37 +87,31 @@ module _ (d z a b : Point) (ba : Behind d z a) (bb : Behind d z b) where
 
   -- a segment behind z does not hold z: a mean of d·(z − a) and d·(z − b) is above 0
   off-segment : onSegment z a b ≡ false
-  off-segment = no-T (onSegment z a b) (λ t. off (on-lies z a b .0 t))
-    where
-      off : Lies z a b → ⊥
-      off l =
-          let w = l .weights in
-          refute-of 4 2 (λ d z a b p q. (
-            ((p :+ q) :* con (pos 0) :< p :* tAtE a d z :+ q :* tAtE b d z)
-                ∷ meanE p q (a .x) (b .x) (z .x) ∷ meanE p q (a .y) (b .y) (z .y) ∷ [],
-            hyp 0 ⊞ mul (d .x) 1 ⊞ mul (d .y) 2,
-          )) tt d z a b (w .p) (w .q) (mean-above w (pos 0) (tAt a d z) (tAt b d z) ba bb)
-          (ap (λ v. v .x) (l .mean)) (ap (λ v. v .y) (l .mean))
+  off-segment =
+      no-T (onSegment z a b) λ t.
+      let l = on-lies z a b .0 t in
+      let w = l .weights in
+      refute-of 4 2 (λ d z a b p q. (
+        ((p :+ q) :* con (pos 0) :< p :* tAtE a d z :+ q :* tAtE b d z)
+            ∷ meanE p q (a .x) (b .x) (z .x) ∷ meanE p q (a .y) (b .y) (z .y) ∷ [],
+        hyp 0 ⊞ mul (d .x) 1 ⊞ mul (d .y) 2,
+      )) tt d z a b (w .p) (w .q) (mean-above w (pos 0) (tAt a d z) (tAt b d z) ba bb)
+      (ap (λ v. v .x) (l .mean)) (ap (λ v. v .y) (l .mean))
 
 -- ---------------- a run
 
 -- what stands between comes twice
+⊕-self : (a : Bool) → a ⊕ a ≡ false
+⊕-self a = test-ind (λ b. b ⊕ b ≡ false) a (λ _. refl) (λ _. refl)
+
 ⊕-chain : (a b c : Bool) → a ⊕ b ⊕ (b ⊕ c) ≡ a ⊕ c
-⊕-chain true true true = refl
-⊕-chain true true false = refl
-⊕-chain true false c = refl
-⊕-chain false true true = refl
-⊕-chain false true false = refl
-⊕-chain false false c = refl
+⊕-chain a b c =
+    ⊕-assoc a b (b ⊕ c) ∙ ap (λ (d : Bool). a ⊕ d) (sym (⊕-assoc b b c) ∙ ap (λ (d : Bool). d ⊕ c) (⊕-self b))
 
 -- an odd number of changes from i to i + k is a change between the two
 telescope : (m : ℕ → Bool) (i k j : ℕ) → i + k ≡ j → oddOf (λ j. m j ⊕ m (suc j)) i k ≡ m i ⊕ m j
 unfolding joined
-telescope m i zero j e = ⊕-self (m i) ∙ ap (λ (j : ℕ). m i ⊕ m j) (omega arith)
-  where
-    ⊕-self : (a : Bool) → false ≡ a ⊕ a
-    ⊕-self true = refl
-    ⊕-self false = refl
+telescope m i zero j e = sym (⊕-self (m i)) ∙ ap (λ (j : ℕ). m i ⊕ m j) (omega arith)
 telescope m i (suc k) j e =
     ap (λ (b : Bool). m i ⊕ m (suc i) ⊕ b) (telescope m (suc i) k j (omega arith)) ∙ ⊕-chain (m i) (m (suc i)) (m j)
 

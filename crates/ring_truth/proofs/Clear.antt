@@ -8,7 +8,7 @@ use native.Mathlib.Omega.{arith}
 use lib.Dec.{T}
 use lib.IntN.{ℤ, pos, negsuc, negℤ}
 use lib.Signed.{ltZ, _<ℤ_, ltZ-yes, <ℤ-≤ℤ-trans}
-use Rattle.integers.specs.Poly.{con, _:+_, _:*_, :neg}
+use Rattle.integers.specs.Poly.{con, :neg}
 use Rattle.integers.specs.Check.{_:<_, _:=_, hyp, mul, _⊞_}
 use Rattle.integers.specs.Order.{≤-<ℤ-trans}
 use Rattle.rules.specs.declared.Point.{Point}
@@ -20,7 +20,7 @@ use Rattle.rules.specs.Questions.{outside, clearOf}
 use Rattle.rules.specs.Build.{holdsPoint}
 use Rattle.visits.proofs.Tests.{either, four-either}
 use Rattle.visits.proofs.Points.{tAtE, ring-of, prove-of}
-use Rattle.visits.proofs.Affine.{Affine, x-affine, y-affine, c-affine, t-affine}
+use Rattle.visits.proofs.Affine.{Affine, x-affine, y-affine, c-affine, t-affine, affineE}
 use Rattle.visits.proofs.Held.{Within, Held, held}
 use Rattle.ring_truth.proofs.Behind.{Behind, run-chord, run-off}
 
@@ -40,7 +40,7 @@ module _ {g : Point → ℤ} (a : Affine g) where
   growing : (p z : Point) → g p <ℤ g z → Behind uphill z p
   growing p z h =
       prove-of 3 3 (λ d p z γ gp gz. (
-        (gp :< gz) ∷ (gp := d .x :* p .x :+ d .y :* p .y :+ γ) ∷ (gz := d .x :* z .x :+ d .y :* z .y :+ γ) ∷ [],
+        (gp :< gz) ∷ affineE (d .x) (d .y) γ p gp ∷ affineE (d .x) (d .y) γ z gz ∷ [],
         con (pos 0) :< tAtE p d z,
         hyp 0 ⊞ mul (con (negsuc 0)) 1 ⊞ hyp 2,
       )) tt uphill p z (a .γ) (g p) (g z) h (a .is p) (a .is z)
@@ -80,18 +80,14 @@ pub clear-alone : (ps : List ℤ) (z : Point) (r : Row) (first last : ℕ) → f
     → ((i : ℕ) → first ≤ i → i ≤ last → T (holdsPoint r ps first last (point ps i)))
     → T (clearOf r (point ps first) (direction (point ps first) (point ps last)) z)
     → Alone ps z first last
-clear-alone ps z r first last l holds t = record {
-  chord =
-      run-chord ps z (F .way) first (last - first) behind
-      ∙ ap (λ (m : ℕ). crosses z (point ps first) (point ps m)) whole;
-  off = λ i a b. run-off ps z (F .way) first (last - first) behind i a (omega arith);
-}
-  where
-    F : Faces (Held r (point ps first) (direction (point ps first) (point ps last))) z
-    F = clear-faces r (point ps first) (direction (point ps first) (point ps last)) z t
-
-    whole : first + (last - first) ≡ last
-    whole = omega arith
-
-    behind : (i : ℕ) → first ≤ i → i ≤ first + (last - first) → Behind (F .way) z (point ps i)
-    behind i a b = F .behind (point ps i) (held r ps first last (point ps i) (holds i a (omega arith)))
+clear-alone ps z r first last l holds t =
+    let F = clear-faces r (point ps first) (direction (point ps first) (point ps last)) z t in
+    let whole : first + (last - first) ≡ last = omega arith in
+    let behind : (i : ℕ) → first ≤ i → i ≤ first + (last - first) → Behind (F .way) z (point ps i) =
+    λ i a b. F .behind (point ps i) (held r ps first last (point ps i) (holds i a (omega arith))) in
+    record {
+      chord =
+          run-chord ps z (F .way) first (last - first) behind
+          ∙ ap (λ (m : ℕ). crosses z (point ps first) (point ps m)) whole;
+      off = λ i a b. run-off ps z (F .way) first (last - first) behind i a (omega arith);
+    }

@@ -1,13 +1,14 @@
 -- The test that z is on a segment says that z is a weighted mean of the segment's ends. With v = z − a and w = b − z,
 -- the box says that v and w do not disagree in sign in either coordinate. The weights are |b − a|² − t(z) and t(z).
 use mathlib.Core.Path.{_≡_, sym, ap}
-use mathlib.Core.Bool.{Bool, true, false, cond, _&&_}
+use mathlib.Core.Bool.{Bool, cond, _&&_}
 use mathlib.Core.List.{[], _∷_}
 use mathlib.Core.Logic.{_↔_, ⊎-elim}
 use lib.Dec.{T}
 use lib.IntN.{ℤ, pos, _+ℤ_, _-ℤ_, _*ℤ_}
 use lib.Signed.{leZ, ltZ, _≤ℤ_, _<ℤ_, leZ-yes}
 use mir.Facts.{and-yes, yes-and}
+use Rattle.integers.specs.Laws.{test-ind}
 use Rattle.integers.specs.Poly.{Expr, con, _:+_, _:*_, _:-_}
 use Rattle.integers.specs.Check.{Stmt, _:≤_, _:<_, _:=_, hyp, num, sqr, mul, _⊞_, _⊠_, prove, scaled}
 use Rattle.integers.specs.Order.{≤ℤ-or-<ℤ, ≤ℤ-trans, ≤ℤ-antisym, ≡→≤ℤ, cancel-≤, eqZ-yes, yes-eqZ}
@@ -63,11 +64,11 @@ module _ (z a b : Point) where
     where
       way : (a b v : ℤ) → T (rangeHolds a b v) → Way a b v
       way a b v t =
-          let h = and-yes (leZ (minZ a b) v) (leZ v (maxZ a b)) t in go (ltZ a b) (leZ-yes (h .0)) (leZ-yes (h .1))
-        where
-          go : (c : Bool) → cond c a b ≤ℤ v → v ≤ℤ cond c b a → Way a b v
-          go true = prove 3 (λ a b v. ((a :≤ v) ∷ (v :≤ b) ∷ [], wayE a b v, hyp 0 ⊠ hyp 1)) tt a b v
-          go false = prove 3 (λ a b v. ((b :≤ v) ∷ (v :≤ a) ∷ [], wayE a b v, hyp 0 ⊠ hyp 1)) tt a b v
+          let h = and-yes (leZ (minZ a b) v) (leZ v (maxZ a b)) t in
+          test-ind (λ c. cond c a b ≤ℤ v → v ≤ℤ cond c b a → Way a b v) (ltZ a b)
+          (λ _. prove 3 (λ a b v. ((a :≤ v) ∷ (v :≤ b) ∷ [], wayE a b v, hyp 0 ⊠ hyp 1)) tt a b v)
+          (λ _. prove 3 (λ a b v. ((b :≤ v) ∷ (v :≤ a) ∷ [], wayE a b v, hyp 0 ⊠ hyp 1)) tt a b v)
+          (leZ-yes (h .0)) (leZ-yes (h .1))
 
   -- a mean of a and b is neither below both nor above both, and c is 0 there
   lies-on : Lies z a b → T (onSegment z a b)

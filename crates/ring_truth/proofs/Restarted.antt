@@ -93,6 +93,8 @@ module _ (ps : List ℤ) (r : Ring ps) (k : ℕ) (l : k ≤ segmentsOf ps) where
 
     joined-restarted : joined join none (of rs) 0 (segmentsOf rs) ≡ joined join none (of ps) 0 n
     joined-restarted =
+        let parted : segmentsOf rs ≡ n - k + k = omega (arith, segments-restarted) in
+        let whole : k + (n - k) ≡ n = omega arith in
         ap (joined join none (of rs) 0) parted
         ∙ append (of rs) 0 (n - k) k
         ∙ (λ d. join (lates d) (earlies d))
@@ -100,12 +102,6 @@ module _ (ps : List ℤ) (r : Ring ps) (k : ℕ) (l : k ≤ segmentsOf ps) where
         ∙ sym (append (of ps) 0 k (n - k))
         ∙ ap (joined join none (of ps) 0) whole
       where
-        parted : segmentsOf rs ≡ n - k + k
-        parted = omega (arith, segments-restarted)
-
-        whole : k + (n - k) ≡ n
-        whole = omega arith
-
         lates : joined join none (of rs) 0 (n - k) ≡ joined join none (of ps) (0 + k) (n - k)
         lates = joined-moved join none (of rs) (of ps) 0 (0 + k) (n - k) (λ m h d.
             test (point-late (0 + m) (0 + k + m) (omega arith) (omega arith) d)

@@ -9,6 +9,7 @@ use lib.Dec.{T, ltb}
 use lib.IntN.{ℤ}
 use lib.ListN.{length}
 use mir.Facts.{or-no, T-not-not, eqb-no}
+use Rattle.integers.specs.Laws.{test-ind}
 use Rattle.integers.specs.Order.{T-true, T-false, yes-T}
 use Rattle.rules.specs.declared.Line.the-variants.{LineA}
 use Rattle.rules.specs.declared.Node.{Node}
@@ -19,7 +20,6 @@ use Rattle.rules.specs.Sheet.{point, pointsOf, segmentsOf}
 use Rattle.rules.specs.Tree.{rowAt}
 use Rattle.rules.specs.Plain.{_⊕_, onSegment, crosses, segmentHolds, segmentCrosses, plainOn, plainInside}
 use Rattle.rules.specs.declared.Word.the-variants.{INSIDE, OUTSIDE, ON}
-use Rattle.rules.specs.Reply.{says}
 use Rattle.rules.specs.Rows.{askedCheck, ringCheck}
 use Rattle.rules.specs.Walk.{Walked, ended, over, spent, refused, fresh}
 use Rattle.rules.specs.Questions.{root, startOf, endOf, headingOf, clearOf, count}
@@ -83,11 +83,8 @@ module _ (ps t : List ℤ) (z : Point) where
   word-true : (a : ℕ) (w : Walked Bool) → Tells hit add (root ps) false w → SaysOnly (plainSide ps z) (sideOfRing a w)
   word-true a (ended y) h = inr (λ i. cond ((sym h ∙ root-on) i) ON (cond (plainInside ps z) INSIDE OUTSIDE))
   word-true a (over k y) h =
-      inr (word-of k ∙ (λ i. cond ((sym (h .0) ∙ root-on) i) ON (cond ((h .1 ∙ root-inside) i) INSIDE OUTSIDE)))
-    where
-      word-of : (k : Bool) → cond k (says INSIDE (y .visits)) (says OUTSIDE (y .visits)) .word ≡ cond k INSIDE OUTSIDE
-      word-of true = refl
-      word-of false = refl
+      inr (test-ind (λ b. sideOfRing a (over b y) .word ≡ cond b INSIDE OUTSIDE) k (λ _. refl) (λ _. refl)
+      ∙ (λ i. cond ((sym (h .0) ∙ root-on) i) ON (cond ((h .1 ∙ root-inside) i) INSIDE OUTSIDE)))
   word-true a spent h = inl refl
   word-true a (refused r) h = absurd h
 

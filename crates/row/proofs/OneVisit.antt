@@ -3,7 +3,7 @@
 use mathlib.Core.Path.{_≡_, refl, sym, _∙_, subst}
 use mathlib.Core.Bool.{Bool, true, false, not, cond, _&&_}
 use mathlib.Core.List.{List}
-use Prim.Native.Nat.{ℕ, _<_}
+use Prim.Native.Nat.{ℕ}
 use lib.Dec.{T-not}
 use lib.IntN.{ℤ, pos}
 use lib.Signed.{ltZ, ltZ-yes, _≤ℤ_}
@@ -20,6 +20,7 @@ use Rattle.rules.specs.Rows.{good}
 use Rattle.rules.specs.Walk.{Visit, refuse, finish, pass, halve}
 use Rattle.rules.specs.Questions.{leaf, splitIn, leftOf, rightOf, openNode, startOf, endOf}
 use Rattle.limits.specs.Small.{OnSheet}
+use Rattle.visits.specs.Nodes.{Inner}
 use Rattle.visits.proofs.Nodes.{between-read}
 use Rattle.limits.proofs.OnSheets.{on-sheet}
 use Rattle.row.specs.Parts.{frameGood, leafFits, splitFits}
@@ -35,10 +36,10 @@ points-differ r a b e =
 
 -- a split is an inner point
 module _ (r : Row) (first last : ℕ) (e : splitFits r first last ≡ true) where
-  pub split-between : (first < splitIn r) × (splitIn r < last)
+  pub split-between : Inner first (splitIn r) last
   split-between =
       let k = and-yes (ltZ (pos first) (r .split)) (ltZ (r .split) (pos last)) (T-true e) in
-      let i = between-read first last (r .split) (ltZ-yes (k .0)) (ltZ-yes (k .1)) in (i .above, i .below)
+      between-read first last (r .split) (ltZ-yes (k .0)) (ltZ-yes (k .1))
 
   pub split-above : pos 0 ≤ℤ (r .split)
   split-above =
@@ -105,6 +106,5 @@ module _ {S : Type 0} (l : Line) (ps t : List ℤ) (n : Node) (g : S → S) (dis
               (refuse 10 l (n .row))
               ≡ cond fits (cond away (pass g) (openNode l ps n (splitIn row) halve)) (refuse 10 l (n .row))
           by true true s = refl
-          by true false s =
-              let i = split-between row (n .first) (n .last) s in sym (opens h (i .0) (i .1) l halve)
+          by true false s = sym (opens h (split-between row (n .first) (n .last) s) l halve)
           by false away s = refl

@@ -8,7 +8,7 @@ use lib.IntN.{ℤ}
 use mir.Facts.{and-yes}
 use Rattle.rules.specs.declared.Line.{Line}
 use Rattle.rules.specs.declared.Node.{Node}
-use Rattle.rules.specs.Sheet.{most, point, segmentsOf, onSheet}
+use Rattle.rules.specs.Sheet.{point, segmentsOf, onSheet}
 use Rattle.rules.specs.Tree.{mostRows}
 use Rattle.rules.specs.Rows.{endsGood}
 use Rattle.rules.specs.Walk.{Visit}
@@ -25,18 +25,16 @@ module _ {ps t : List ℤ} {n : Node} (h : Stands ps t n) where
   pub row-small : n .row < mostRows
   row-small = omega (arith, fits-row (h .fits), h .fine .not-more)
 
-  module _ {s : ℕ} (low : n .first < s) (high : s < n .last) where
-    inner : Inner (n .first) s (n .last)
-    inner = record { above = low; below = high }
-
+  module _ {s : ℕ} (inner : Inner (n .first) s (n .last)) where
     pub left-stands : Stands ps t (leftOf n s)
-    left-stands = record { fine = h .fine; fits = fits-left (h .fits) inner; points-in = omega (arith, h .points-in) }
+    left-stands = record {
+      fine = h .fine;
+      fits = fits-left (h .fits) inner;
+      points-in = omega (arith, inner .below, h .points-in);
+    }
 
     pub right-stands : Stands ps t (rightOf n s)
     right-stands = record { fine = h .fine; fits = fits-right (h .fits) inner; points-in = h .points-in }
-
-    pub split-small : s < most
-    split-small = omega (arith, h .points-in, h .fine .not-more)
 
     -- and room for its children's rows: refusal 11 does not come
     pub opens : {S N : Type 0} (l : Line) (go : Node → Node → Visit S N)

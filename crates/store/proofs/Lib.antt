@@ -1,4 +1,3 @@
--- Points behind points, bytes behind bytes, and what is written from the start.
+-- Points behind points, and bytes behind bytes.
 pub mod Stores
 pub mod Texts
-pub mod Written

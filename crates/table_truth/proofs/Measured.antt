@@ -1,6 +1,5 @@
 -- The measured row of a run holds every point of the run, and is good by the rules of refusal 10 where the run's points
--- are
--- on the sheet. c and t are 0 at the run's first point, so the strip has 0 inside.
+-- are on the sheet. c and t are 0 at the run's first point, so the strip has 0 inside.
 use mathlib.Core.Path.{_≡_, refl, ap}
 use mathlib.Core.Bool.{Bool, true, false, not, _&&_}
 use mathlib.Core.List.{List}
@@ -9,6 +8,7 @@ use native.Mathlib.Omega.{arith}
 use borrow.Author.Tests.{le-leb, lt-leb, lt-ltb, leb-true}
 use lib.IntN.{ℤ, pos}
 use mir.Facts.{and-yes}
+use Rattle.integers.specs.Laws.{test-ind}
 use Rattle.integers.specs.Order.{≤ℤ-trans, T-true, yes-T, le-true, yes-eqZ}
 use Rattle.rules.specs.declared.Point.{Point}
 use Rattle.rules.specs.Plane.{eqZ, samePoint, direction}
@@ -101,8 +101,6 @@ no-split-good ps first last h = rw (le-leb last (first + 1) h) refl
 
 pub leaf-good : (ps : List ℤ) (first last : ℕ)
     → (last ≤ first + 1 → samePoint (point ps first) (point ps last) ≡ false) → leafGood ps first last ≡ true
-leaf-good ps first last d = go (isLeaf first last) refl
-  where
-    go : (b : Bool) → isLeaf first last ≡ b → not (b && samePoint (point ps first) (point ps last)) ≡ true
-    go true e = ap not (d (leb-true last (first + 1) e))
-    go false e = refl
+leaf-good ps first last d =
+    test-ind (λ b. not (b && samePoint (point ps first) (point ps last)) ≡ true) (isLeaf first last)
+    (λ e. ap not (d (leb-true last (first + 1) e))) (λ _. refl)

@@ -1,8 +1,7 @@
 -- Document 01: "the run of its points is handed on as a part starting in the middle of the line". What is measured of
--- the
--- part alone, its points counted from 0, is what is measured of the run: the split, the strip and the box.
+-- the part alone, its points counted from 0, is what is measured of the run: the split, the strip and the box.
 use mathlib.Core.Path.{_≡_, refl, sym, ap, subst, _∙_}
-use mathlib.Core.Bool.{Bool, true, false, cond, _&&_, _||_}
+use mathlib.Core.Bool.{Bool, cond, _&&_, _||_}
 use mathlib.Core.List.{List}
 use Prim.Native.Nat.{ℕ, zero, suc, _+_, _*_, _-_, _≤_, _<_}
 use native.Mathlib.Nat.{add-zero, zero-add, sub-zero, add-sub-cancel-left}
@@ -11,6 +10,7 @@ use lib.Dec.{ltb, eqb}
 use lib.IntN.{ℤ, pos, natAbs}
 use lib.ListN.{take, drop, getD}
 use lib.Seq.{getD-take, getD-drop}
+use Rattle.integers.specs.Laws.{test-ind}
 use Rattle.rules.specs.declared.Point.{Point}
 use Rattle.rules.specs.declared.Row.{Row}
 use Rattle.rules.specs.Plane.{direction, cAt, tAt}
@@ -45,10 +45,6 @@ standing first last split r = record {
   ymin = r .ymin;
   ymax = r .ymax;
 }
-
-cond-shift : (b : Bool) (n i j : ℕ) → cond b (n + i) (n + j) ≡ n + cond b i j
-cond-shift true n i j = refl
-cond-shift false n i j = refl
 
 middle-part : (first m i : ℕ) → offMiddle first (first + m) (first + i) ≡ offMiddle 0 m i
 middle-part first m i = omega arith
@@ -87,7 +83,7 @@ module _ (ps q : List ℤ) (first m : ℕ) (same : (i : ℕ) → i ≤ m → poi
       let e : first + 1 + suc k ≡ first + j = omega arith in
       (λ t. cond (better ps first (first + m) (best-part k (omega arith) t) (e t)) (e t) (best-part k (omega arith) t))
       ∙ ap (λ (b : Bool). cond b (first + j) (first + i)) (better-part i j (omega arith) (omega arith))
-      ∙ cond-shift (better q 0 m i j) first j i
+      ∙ test-ind (λ b. cond b (first + j) (first + i) ≡ first + cond b j i) (better q 0 m i j) (λ _. refl) (λ _. refl)
 
   split-counted : splitOf ps first (first + m) ≡ first + splitOf q 0 m
   unfolding splitOf

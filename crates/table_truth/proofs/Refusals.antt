@@ -1,6 +1,6 @@
 -- Building refuses nothing exactly when the line and the table are accepted; and the place of refusals 4 and 5 is the
 -- lowest point that is at fault.
-use mathlib.Core.Path.{_≡_, refl, ap, _∙_}
+use mathlib.Core.Path.{_≡_, ap, _∙_}
 use mathlib.Core.Bool.{Bool, true, false, not, cond}
 use mathlib.Core.List.{List}
 use mathlib.Core.Option.{none}
@@ -12,6 +12,7 @@ use native.Mathlib.Omega.{arith}
 use borrow.Author.Tests.{ltb-false, le-ltb, not-false}
 use lib.Dec.{ltb}
 use lib.IntN.{ℤ}
+use Rattle.integers.specs.Laws.{test-ind}
 use Rattle.rules.specs.declared.Line.the-variants.{LineA}
 use Rattle.rules.specs.Sheet.{point, pointsOf, segmentsOf, onSheet}
 use Rattle.rules.specs.Build.{lowest, offSheet, equalNext, buildChecks, buildRefusal}
@@ -31,18 +32,16 @@ lowest-is p i zero = record {
   before = λ j h l. absurd (omega arith);
   found = λ h. absurd (omega arith);
 }
-lowest-is p i (suc k) = go (p i) refl (lowest-is p (suc i) k)
-  where
-    go : (b : Bool) → p i ≡ b → Lowest p (suc i) k (lowest p (suc i) k)
-        → Lowest p i (suc k) (cond b i (lowest p (suc i) k))
-    go true e ih =
-        record { from = omega arith; upto = omega arith; before = λ j h l. absurd (omega arith); found = λ _. e }
-    go false e ih = record {
-      from = omega arith;
-      upto = omega arith;
+lowest-is p i (suc k) =
+    let ih = lowest-is p (suc i) k in
+    test-ind (λ b. Lowest p i (suc k) (cond b i (lowest p (suc i) k))) (p i)
+    (λ e. record { from = omega arith; upto = omega arith; before = λ j h l. absurd (omega arith); found = λ _. e })
+    (λ e. record {
+      from = omega (arith, ih .from);
+      upto = omega (arith, ih .upto);
       before = λ j h l. elim (ℕ-discrete j i) [ yes q ↦ ap p q ∙ e | no q ↦ ih .before j (omega arith) l ];
       found = λ h. ih .found (omega arith);
-    }
+    })
 
 -- there is one lowest
 pub lowest-unique : (p : ℕ → Bool) (i k m n : ℕ) → Lowest p i k m → Lowest p i k n → m ≡ n

@@ -1,7 +1,7 @@
 -- A table built without refusal is sound: at each node the row is good, and strip and box hold every point of the run.
 -- The rows of a node stand in the table from its row number on, and so do the rows of its halves.
 use mathlib.Core.Path.{_≡_, refl, ap, _∙_}
-use mathlib.Core.Bool.{Bool, true, false, cond, _&&_}
+use mathlib.Core.Bool.{true, false}
 use mathlib.Core.List.{List, _++_}
 use mathlib.Core.Logic.{⊎-elim}
 use mathlib.Core.Option.{none}
@@ -19,41 +19,33 @@ use Rattle.rules.specs.declared.Node.{Node}
 use Rattle.rules.specs.Plane.{samePoint}
 use Rattle.rules.specs.Sheet.{point, segmentsOf, onSheet}
 use Rattle.rules.specs.Tree.{splitOf, width, rowAt, measured, noSplit, rowsOf}
-use Rattle.rules.specs.Plain.{everyOf}
 use Rattle.rules.specs.Rows.{splitGood, good}
 use Rattle.rules.specs.Questions.{root, leaf, size, leftOf, rightOf}
-use Rattle.rules.specs.Build.{holdsPoint, holdsRun, soundFrom, sound, buildRefusal, tableOf, builtTable}
+use Rattle.rules.specs.Build.{holdsRun, soundFrom, sound, buildRefusal, tableOf, builtTable}
 use Rattle.visits.proofs.Counts.{everyOf-make}
 use Rattle.table_truth.specs.Accepted.{rowNumbers}
 use Rattle.table_truth.proofs.Rows.{split-between, leaf-or-inner, leaf-front, inner-front, left-rows, right-rows}
 use Rattle.table_truth.proofs.Rows.{row-start}
 use Rattle.table_truth.proofs.Refusals.{accepted, points-on, some-segment}
 use Rattle.table_truth.proofs.Table.{built-whole}
-use Rattle.table_truth.proofs.Measured.{_also_, measured-holds, measured-good, split-good, no-split-good, leaf-good}
+use Rattle.table_truth.proofs.Measured.{_also_, measured-holds, measured-good, split-good, leaf-good}
+use Rattle.table_truth.proofs.Measured.{no-split-good}
 
 -- a node is sound whose row is the measured one and good, and whose halves are sound
 module _ (f : ℕ) (ps t : List ℤ) (n : Node) (z : ℤ) where
   abbrev Sound : Node → Type 0
   Sound m = soundFrom f ps t m ≡ true
 
-  run : ℕ → Bool
-  run i = holdsPoint (measured ps (n .first) (n .last) z) ps (n .first) (n .last) (point ps i)
-
   sound-make : n .first < n .last → rowAt t (n .row) ≡ measured ps (n .first) (n .last) z
       → good ps (measured ps (n .first) (n .last) z) (n .first) (n .last) ≡ true
       → (n .first + 1 < n .last → Sound (leftOf n (natAbs z)) × Sound (rightOf n (natAbs z)))
       → soundFrom (suc f) ps t n ≡ true
-  unfolding soundFrom holdsRun measured run
-  sound-make l e g h = simp e (g also holds also halves)
-    where
-      holds : everyOf run (n .first) (suc (size n)) ≡ true
-      holds =
-          yes-T (everyOf run (n .first) (suc (size n))) (everyOf-make run (n .first) (suc (size n)) (λ i a b.
-          T-true (measured-holds ps (n .first) (n .last) (omega arith) z i a (omega arith))))
-
-      halves : cond (leaf n) true (soundFrom f ps t (leftOf n (natAbs z)) && soundFrom f ps t (rightOf n (natAbs z)))
-          ≡ true
-      halves = cond-ind (leaf n) true _ (λ b. b ≡ true) (λ _. refl) (λ q. let k = h (leb-no q) in k .0 also k .1)
+  unfolding soundFrom holdsRun measured
+  sound-make l e g h =
+      simp e (g
+      also yes-T _ (everyOf-make _ (n .first) (suc (size n)) (λ i a b.
+      T-true (measured-holds ps (n .first) (n .last) (omega arith) z i a (omega arith))))
+      also cond-ind (leaf n) true _ (λ b. b ≡ true) (λ _. refl) (λ q. let k = h (leb-no q) in k .0 also k .1))
 
 -- ---------------- a table in which the rows of a line stand
 

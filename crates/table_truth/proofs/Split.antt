@@ -1,6 +1,5 @@
 -- The split rule of document 01: the split that is found by going through the inner points in order is the best of
--- them.
--- A point that is better than the best so far is as good as all before it; one that is not leaves the best where it is.
+-- them. A point better than the best so far is as good as all before it; any other leaves the best where it is.
 use mathlib.Core.Path.{_≡_, sym, subst, _∙_}
 use mathlib.Core.Bool.{not, _&&_, _||_}
 use mathlib.Core.List.{List}
@@ -20,10 +19,9 @@ use Rattle.table_truth.proofs.Rows.{≤-or->, best-between, split-betwe
 
 taken : (h o h′ o′ : ℕ) → T (ltb h h′ || (eqb h h′ && ltb o′ o)) → (h < h′) ⊎ ((h ≡ h′) × (o′ < o))
 taken h o h′ o′ t =
-    ⊎-elim (λ l. inl (ltb→lt h h′ l)) (λ e. inr (both (and-yes (eqb h h′) (ltb o′ o) e))) (or-yes (ltb h h′) _ t)
-  where
-    both : T (eqb h h′) × T (ltb o′ o) → (h ≡ h′) × (o′ < o)
-    both e = (eqb→eq h h′ (e .0), ltb→lt o′ o (e .1))
+    ⊎-elim (λ l. inl (ltb→lt h h′ l))
+    (λ e. let b = and-yes (eqb h h′) (ltb o′ o) e in inr (eqb→eq h h′ (b .0), ltb→lt o′ o (b .1)))
+    (or-yes (ltb h h′) _ t)
 
 kept : (h o h′ o′ : ℕ) → T (not (ltb h h′ || (eqb h h′ && ltb o′ o))) → (h′ ≤ h) × (h′ ≡ h → o ≤ o′)
 kept h o h′ o′ t =
@@ -50,16 +48,10 @@ module _ (ps : List ℤ) (first last : ℕ) where
       (λ l. record { high = omega arith; middle = λ e. absurd (omega arith); lower = λ e _. absurd (omega arith) })
       (λ l. record {
         high = omega arith;
-        middle = λ e. nearer (l .1) (g .middle (e ∙ sym (l .0)));
-        lower = λ e d. absurd (farther (l .1) (g .middle (e ∙ sym (l .0))) d);
+        middle = λ e. omega (arith, l .1, g .middle (e ∙ sym (l .0)));
+        lower = λ e d. absurd (omega (arith, l .1, g .middle (e ∙ sym (l .0))));
       })
       (taken (height ps first last s) (offMiddle first last s) (height ps first last j) (offMiddle first last j) t)
-    where
-      nearer : {a b c : ℕ} → a < b → b ≤ c → a ≤ c
-      nearer h k = omega arith
-
-      farther : {a b c : ℕ} → a < b → b ≤ c → c ≡ a → ⊥
-      farther h k e = omega arith
 
   -- an inner point among the first k + 1 is one of the first k, or the last of them
   best-so-far : (k i : ℕ) → first < i → i ≤ first + 1 + k → AsGood ps first last (best ps first last k) i

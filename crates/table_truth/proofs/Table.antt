@@ -1,14 +1,15 @@
 -- What stands in a lent table after a build: refused, what stood there; else the described rows, and past them what
 -- stood there.
-use mathlib.Core.Path.{_≡_, refl, sym, ap, _∙_}
+use mathlib.Core.Path.{_≡_, sym, ap, _∙_}
 use mathlib.Core.List.{List, _++_}
-use mathlib.Core.Option.{Option, none, some}
+use mathlib.Core.Option.{none, some}
 use Prim.Native.Nat.{ℕ, _*_, _≤_}
 use native.Mathlib.Nat.{sub-zero}
 use native.Mathlib.Omega.{arith}
 use lib.IntN.{ℤ}
 use lib.ListN.{length, take, drop, length-append, length-drop}
 use lib.Seq.{take-at, drop-at}
+use Rattle.integers.specs.Laws.{option-ind}
 use Rattle.rules.specs.declared.Line.{Line}
 use Rattle.rules.specs.declared.Refusal.{Refusal}
 use Rattle.rules.specs.Sheet.{pointsOf, segmentsOf, fewest}
@@ -46,11 +47,7 @@ module _ (ps t : List ℤ) where
   built-rows e = rw (built-whole e) (take-at (tableOf ps) (drop (rowNumbers ps) t) (rowNumbers ps) (whole-length e))
 
   by-refusal : {A : Type 0} → (buildRefusal ps t ≡ none → A) → ((r : Refusal) → buildRefusal ps t ≡ some r → A) → A
-  by-refusal {A} f g = go (buildRefusal ps t) refl
-    where
-      go : (o : Option Refusal) → buildRefusal ps t ≡ o → A
-      go none e = f e
-      go (some r) e = g r e
+  by-refusal {A} f g = option-ind (λ _. A) (buildRefusal ps t) f g
 
   -- numbers past the rows stay unchanged
   pub built-rest : drop (rowNumbers ps) (builtTable ps t) ≡ drop (rowNumbers ps) t

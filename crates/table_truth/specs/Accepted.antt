@@ -9,7 +9,7 @@ use Rattle.rules.specs.Sheet.{point, pointsOf, segmentsOf, onSheet}
 use Rattle.rules.specs.Tree.{width, rowCount}
 use Rattle.visits.specs.Fine.{LengthsFine}
 
--- 11*(2n-1), the numbers of a line's rows
+-- width*(2n-1), the numbers of a line's rows
 abbrev pub rowNumbers : List ℤ → ℕ
 rowNumbers ps = width * rowCount (segmentsOf ps)
 

@@ -8,7 +8,7 @@ use Rattle.rules.specs.declared.Row.{Row}
 use Rattle.rules.specs.Sheet.{most, limit}
 use Rattle.limits.specs.Small.{widest}
 
--- |c| and |t| are at most 2*32,766^2 on the sheet, which is below 2^31
+-- |c| and |t| are at most widest on the sheet, which is below 2^31
 pub record RowRange (r : Row) : Type 0 where
   pub first : Abs≤ most (r .first)
   pub last : Abs≤ most (r .last)

@@ -1,8 +1,7 @@
 -- The checks before a walk: which of two lists refuses, and what it tells that none does: not one of them holds, and so
--- a
--- line has a segment.
+-- a line has a segment.
 use mathlib.Core.Path.{_≡_, refl, _∙_, ap, subst}
-use mathlib.Core.Bool.{Bool, true, false, cond}
+use mathlib.Core.Bool.{Bool, false, cond}
 use mathlib.Core.List.{List, [], _∷_, _++_}
 use mathlib.Core.Option.{Option, none, some, IsSome}
 use Prim.Native.Nat.{_*_, _%_, _≤_}
@@ -10,7 +9,9 @@ use native.Mathlib.Omega.{arith}
 use borrow.Author.Tests.{ltb-false, le-ltb, eqb-false, ne-eqb}
 use lib.IntN.{ℤ}
 use lib.ListN.{length}
+use Rattle.integers.specs.Laws.{test-ind}
 use Rattle.rules.specs.declared.Line.{Line}
+use Rattle.rules.specs.declared.Line.the-variants.{LineA, LineB}
 use Rattle.rules.specs.declared.Refusal.{Refusal}
 use Rattle.rules.specs.Sheet.{pointsOf, segmentsOf, fewest, most}
 use Rattle.rules.specs.Tree.{width, rowCount}
@@ -27,12 +28,9 @@ a then b = (a, b)
 -- nothing is refused exactly where no check holds
 pub none-clear : (ks : List Check) → firstRefusal ks ≡ none → Clear ks
 none-clear [] e = tt
-none-clear (k ∷ ks) e = go (k .holds) e (none-clear ks)
-  where
-    go : (b : Bool) → cond b (some (early k)) (firstRefusal ks) ≡ none → (firstRefusal ks ≡ none → Clear ks)
-        → (b ≡ false) × Clear ks
-    go true e f = absurd (subst IsSome e tt)
-    go false e f = (refl, f e)
+none-clear (k ∷ ks) e =
+    test-ind (λ b. cond b (some (early k)) (firstRefusal ks) ≡ none → (b ≡ false) × Clear ks) (k .holds)
+    (λ _ r. absurd (subst IsSome r tt)) (λ _ r. (refl, none-clear ks r)) e
 
 pub clear-none : (ks : List Check) → Clear ks → firstRefusal ks ≡ none
 clear-none [] c = refl
@@ -55,12 +53,10 @@ orElse (some a) r = some a
 -- two lists of checks in a row refuse what the first does, and else what the second does
 pub first-append : (ks ls : List Check) → firstRefusal (ks ++ ls) ≡ orElse (firstRefusal ks) (firstRefusal ls)
 first-append [] ls = refl
-first-append (k ∷ ks) ls = go (k .holds) (first-append ks ls)
-  where
-    go : (b : Bool) {o : Option Refusal} → o ≡ orElse (firstRefusal ks) (firstRefusal ls)
-        → cond b (some (early k)) o ≡ orElse (cond b (some (early k)) (firstRefusal ks)) (firstRefusal ls)
-    go true e = refl
-    go false e = e
+first-append (k ∷ ks) ls =
+    let told : Bool → Option Refusal → Option Refusal = λ b o. cond b (some (early k)) o in
+    test-ind (λ b. told b (firstRefusal (ks ++ ls)) ≡ orElse (told b (firstRefusal ks)) (firstRefusal ls)) (k .holds)
+    (λ _. refl) (λ _. first-append ks ls)
 
 -- ---------------- a line's lengths
 
@@ -92,5 +88,13 @@ module _ (l : Line) (ps t : List ℤ) (rest : List Check) (e : firstRefusal (len
   some-segment = omega (arith, lengths-read l ps t (clear .0) .some-points)
 
   -- .. and the others do not refuse either
-  pub rest-none : firstRefusal rest ≡ none
+  rest-none : firstRefusal rest ≡ none
   rest-none = clear-none rest (clear .1)
+
+-- where the checks of the lengths of two lines, and then others, do not refuse, both have a segment
+pub both-segments : (ps t qs t′ : List ℤ) (rest : List Check)
+    → firstRefusal (lengthChecks LineA ps t ++ (lengthChecks LineB qs t′ ++ rest)) ≡ none
+    → (1 ≤ segmentsOf ps) × (1 ≤ segmentsOf qs)
+both-segments ps t qs t′ rest e =
+    let of-B = lengthChecks LineB qs t′ ++ rest in
+    (some-segment LineA ps t of-B e, some-segment LineB qs t′ rest (rest-none LineA ps t of-B e))

@@ -7,6 +7,7 @@ use native.Mathlib.Nat.{add-zero, add-suc, zero-add, suc-add}
 use native.Mathlib.Omega.{arith}
 use lib.Dec.{T}
 use mir.Facts.{and-yes, yes-and}
+use Rattle.integers.specs.Laws.{test-ind}
 use Rattle.rules.specs.Plain.{joined, _⊕_, someOf, everyOf, oddOf}
 
 -- ---------------- the operations
@@ -86,12 +87,10 @@ Somewhere p i k = (j : ℕ) × (i ≤ j) × (j < i + k) × (p j ≡ true)
 pub someOf-read : (p : ℕ → Bool) (i k : ℕ) → someOf p i k ≡ true → Somewhere p i k
 unfolding joined
 someOf-read p i zero e = absurd (false≢true e)
-someOf-read p i (suc k) e = go (p i) refl e (someOf-read p (suc i) k)
-  where
-    go : (b : Bool) → p i ≡ b → b || someOf p (suc i) k ≡ true → (someOf p (suc i) k ≡ true → Somewhere p (suc i) k)
-        → Somewhere p i (suc k)
-    go true q e ih = (i, omega arith, omega arith, q)
-    go false q e ih = let r = ih e in (r .0, omega (arith, r .1), omega (arith, r .2), r .3)
+someOf-read p i (suc k) e =
+    test-ind (λ b. b || someOf p (suc i) k ≡ true → Somewhere p i (suc k)) (p i)
+    (λ q _. (i, omega arith, omega arith, q))
+    (λ _ h. let r = someOf-read p (suc i) k h in (r .0, omega (arith, r .1), omega (arith, r .2), r .3)) e
 
 -- ---------------- every
 pub everyOf-read : (p : ℕ → Bool) (i k : ℕ) → T (everyOf p i k) → (j : ℕ) → i ≤ j → j < i + k → T (p j)

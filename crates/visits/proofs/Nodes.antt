@@ -1,6 +1,5 @@
 -- What a good row tells, where a node's rows stand in the table, and what a sound table tells at each node. The row
--- numbers
--- of both children are kept in one place: `Fits`. So no child's row reaches 2n-1, whatever numbers the table holds.
+-- numbers of both children are kept in one place: `Fits`. So no child's row reaches 2n-1, whatever the table holds.
 use mathlib.Core.Path.{_≡_, subst}
 use mathlib.Core.Bool.{Bool, true, not, cond, _&&_, and-comm}
 use mathlib.Core.List.{List}

@@ -1,5 +1,5 @@
--- Points in the checker: a point of terms, document 01's step, c, t and |u|² of such, and the checkers of `whole` for
--- claims about n points and then m numbers, the parameters of a λ. And when two points are one.
+-- Points in the checker: a point of terms, document 01's step, c, t and |u|² of such, and the checkers of `integers`
+-- for claims about n points and then m numbers, the parameters of a λ. And when two points are one.
 use mathlib.Core.Path.{_≡_}
 use mathlib.Core.List.{List, [], _∷_}
 use Prim.Native.Nat.{ℕ, zero, suc}
@@ -8,8 +8,8 @@ use lib.IntN.{ℤ}
 use mir.Facts.{and-yes}
 use Rattle.integers.specs.Order.{eqZ, eqZ-yes}
 use Rattle.integers.specs.Poly.{_:-_}
-use Rattle.integers.specs.Check.{Fun, Every, vars, Expr, Stmt, Holds, Given, Says, num, checks, ring, Claim, valid, prove}
-use Rattle.integers.specs.Check.{Scaled, valid-scaled, scaled, Clash, clashes, refute}
+use Rattle.integers.specs.Check.{Fun, Every, vars, Expr, Stmt, Holds, Given, Says, num, checks, ring, Claim, valid}
+use Rattle.integers.specs.Check.{prove, Scaled, valid-scaled, scaled, Clash, clashes, refute}
 use Rattle.rules.specs.declared.Point.{Point}
 use Rattle.rules.specs.Plane.{samePoint}
 use Rattle.visits.proofs.Terms.{cE, tE, sizeE}

@@ -44,8 +44,7 @@ abbrev pub Sure : Bool → Reply → Type 0
 Sure b r = (r .word ≡ YES → b ≡ true) × (r .word ≡ NO → b ≡ false)
 
 sure : (b : Bool) (r : Reply) → Truthful b r → Sure b r
-sure true r (inl e) = (λ _. refl, λ o. cc)
-sure false r (inl e) = (λ o. cc, λ _. refl)
+sure b r (inl e) = (λ o. cc, λ o. cc)
 sure true r (inr e) = (λ _. refl, λ o. cc)
 sure false r (inr e) = (λ o. cc, λ _. refl)
 

@@ -33,15 +33,11 @@ joined-halves : (join : Bool → Bool → Bool) (none : Bool) → ((b : Bool) �
     → s < n .last
     → joinedIn join none p n ≡ join (joinedIn join none p (leftOf n s)) (joinedIn join none p (rightOf n s))
 joined-halves join none unit assoc p n s low high =
+    let parted : n .last - n .first ≡ (s - n .first) + (n .last - s) = omega arith in
+    let met : n .first + (s - n .first) ≡ s = omega arith in
     ap (joined join none p (n .first)) parted
     ∙ joined-append join none unit assoc p (n .first) (s - n .first) (n .last - s)
     ∙ ap (λ (i : ℕ). join (joined join none p (n .first) (s - n .first)) (joined join none p i (n .last - s))) met
-  where
-    parted : n .last - n .first ≡ (s - n .first) + (n .last - s)
-    parted = omega arith
-
-    met : n .first + (s - n .first) ≡ s
-    met = omega arith
 
 -- over the whole line, at its root
 pub joined-root : (join : Bool → Bool → Bool) (none : Bool) (p : ℕ → Bool) (ps : List ℤ)
@@ -53,14 +49,9 @@ joined-leaf : (join : Bool → Bool → Bool) (none : Bool) → ((b : Bool) → 
     → (ps : List ℤ) (q : Point → Point → Bool) (n : Node) → n .last ≡ suc (n .first)
     → joinedIn join none (λ i. q (point ps i) (point ps (suc i))) n ≡ q (startOf ps n) (endOf ps n)
 joined-leaf join none unit ps q n e =
-    ap (joined join none segment (n .first)) one ∙ joined-one join none unit segment (n .first)
+    let one : n .last - n .first ≡ 1 = omega arith in
+    ap (joined join none _ (n .first)) one ∙ joined-one join none unit _ (n .first)
     ∙ ap (λ (j : ℕ). q (startOf ps n) (point ps j)) (sym e)
-  where
-    segment : ℕ → Bool
-    segment i = q (point ps i) (point ps (suc i))
-
-    one : n .last - n .first ≡ 1
-    one = omega arith
 
 -- ---------------- some, and an odd number
 

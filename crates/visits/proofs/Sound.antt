@@ -1,6 +1,5 @@
 -- A node of a sound table with all that is below it, under whatever number of levels is enough for it: its row is good
--- and
--- holds its points, its rows stand in the table, and its halves are such nodes again.
+-- and holds its points, its rows stand in the table, and its halves are such nodes again.
 use mathlib.Core.Path.{_≡_}
 use mathlib.Core.Bool.{true}
 use mathlib.Core.List.{List}

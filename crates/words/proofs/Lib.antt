@@ -3,3 +3,4 @@ pub mod Fields
 pub mod Readings
 pub mod Choice
 pub mod Figures
+pub mod Forms

@@ -2,3 +2,4 @@
 pub mod Fields
 pub mod Numbers
 pub mod Records
+pub mod Forms

@@ -1,4 +1,4 @@
--- The numbers of a record, each in its field: coordinates and distances fit i32, allowances u32.
+-- How the code reads the numbers of a record, each in its field.
 use mathlib.Core.Bool.{Bool, cond}
 use mathlib.Core.List.{List}
 use mathlib.Core.Option.{Option, none, some}

@@ -1,19 +1,16 @@
 -- The records of the question program. Any other record, and a text line above 80 bytes, is not understood.
 use mathlib.Core.Bool.{Bool, cond, _&&_}
 use mathlib.Core.List.{List, [], _∷_}
+use mathlib.Core.Option.{Option, none, some}
 use Prim.Native.Nat.{ℕ}
 use lib.Dec.{eqb, leb}
+use lib.IntN.{ℤ, natAbs}
 use lib.ListN.{length}
 use Rattle.rules.specs.declared.Line.the-variants.{LineA, LineB}
+use Rattle.numerals.specs.Numerals.{numeral, onlyIf, fitsI32, fitsU32}
 use Rattle.words.specs.declared.Record.{Record}
 use Rattle.words.specs.declared.Record.the-variants.{Start, Pt, Near, In, Meet, Agree, NotUnderstood}
-use Rattle.words.specs.declared.Form.{Form}
-use Rattle.words.specs.declared.Form.the-variants as form
-use Rattle.words.specs.declared.Places.{Places}
-use Rattle.words.specs.declared.Numbers.{Numbers}
-use Rattle.words.specs.declared.Numbers.the-variants.{All, Nothing}
 use Rattle.words.specs.Fields.{fields, field, sameBytes}
-use Rattle.words.specs.Numbers.{numbersAt}
 
 -- the words, in bytes
 abbrev pub LINE : List ℕ
@@ -51,42 +48,34 @@ is count first word wanted = eqb count wanted && sameBytes first word
 abbrev pub lineNamed : List ℕ → Record
 lineNamed f = cond (sameBytes f A) (Start LineA) (cond (sameBytes f B) (Start LineB) NotUnderstood)
 
-abbrev pub formOf : ℕ → List ℕ → Form
-formOf count first =
-    cond (is count first PT 3) form.Pt
-    (cond (is count first NEAR 5) form.Near
-    (cond (is count first IN 4) form.In
-    (cond (is count first MEET 2) form.Meet
-    (cond (is count first AGREE 3) form.Agree
-    form.Other))))
+-- the number in field k: coordinates and distances fit i32, allowances u32
+abbrev pub coordinate : List (List ℕ) → ℕ → Option ℤ
+coordinate fs k = onlyIf fitsI32 (numeral (field fs k))
 
--- the fields of x, y, distance and allowance, 0 where there is none: PT x y; NEAR x y D allowance; IN x y allowance;
--- MEET allowance; AGREE D allowance
-abbrev pub at : ℕ → ℕ → ℕ → ℕ → Places
-at x y d a = record { x = x; y = y; distance = d; allowance = a }
+abbrev pub allowance : List (List ℕ) → ℕ → Option ℤ
+allowance fs k = onlyIf fitsU32 (numeral (field fs k))
 
-abbrev pub placesOf : Form → Places
-placesOf form.Pt = at 1 2 0 0
-placesOf form.Near = at 1 2 3 4
-placesOf form.In = at 1 2 0 3
-placesOf form.Meet = at 0 0 0 1
-placesOf form.Agree = at 0 0 1 2
-placesOf form.Other = at 0 0 0 0
+-- a record is understood if each of its numbers is
+abbrev pub given : Option ℤ → (ℤ → Record) → Record
+given none go = NotUnderstood
+given (some z) go = go z
 
-abbrev pub madeOf : Numbers → Form → Record
-madeOf Nothing f = NotUnderstood
-madeOf (All x y d a) form.Pt = Pt x y
-madeOf (All x y d a) form.Near = Near x y d a
-madeOf (All x y d a) form.In = In x y a
-madeOf (All x y d a) form.Meet = Meet a
-madeOf (All x y d a) form.Agree = Agree d a
-madeOf (All x y d a) form.Other = NotUnderstood
+-- PT x y; NEAR x y D allowance; IN x y allowance; MEET allowance; AGREE D allowance
+abbrev pub numbered : ℕ → List ℕ → List (List ℕ) → Record
+numbered count word fs =
+    cond (is count word PT 3) (given (coordinate fs 1) λ x. given (coordinate fs 2) λ y. Pt x y)
+    (cond (is count word NEAR 5)
+    (given (coordinate fs 1) λ x. given (coordinate fs 2) λ y. given (coordinate fs 3) λ d.
+    given (allowance fs 4) λ a. Near x y d (natAbs a))
+    (cond (is count word IN 4)
+    (given (coordinate fs 1) λ x. given (coordinate fs 2) λ y. given (allowance fs 3) λ a. In x y (natAbs a))
+    (cond (is count word MEET 2) (given (allowance fs 1) λ a. Meet (natAbs a))
+    (cond (is count word AGREE 3) (given (coordinate fs 1) λ d. given (allowance fs 2) λ a. Agree d (natAbs a))
+    NotUnderstood))))
 
 -- of so many fields, the first of which is the word
 abbrev pub recordIn : ℕ → List ℕ → List (List ℕ) → Record
-recordIn count word fs =
-    let f = formOf count word in
-    cond (is count word LINE 2) (lineNamed (field fs 1)) (madeOf (numbersAt fs (placesOf f)) f)
+recordIn count word fs = cond (is count word LINE 2) (lineNamed (field fs 1)) (numbered count word fs)
 
 unfoldable pub recordOf : List ℕ → Record
 recordOf text =

@@ -9,7 +9,8 @@ ghost use lib.ListN.{length};
 ghost use Rattle.numerals.specs.Numerals.{inRange};
 ghost use Rattle.numerals.specs.Read.{numberRead};
 ghost use Rattle.words.specs.Fields.{fields, field, sameBytes};
-ghost use Rattle.words.specs.Records.{is, lineNamed, formOf, at, placesOf, madeOf, recordOf};
+ghost use Rattle.words.specs.Records.{is, lineNamed, recordOf};
+ghost use Rattle.words.specs.Forms.{formOf, at, placesOf, madeOf};
 ghost use Rattle.words.specs.Numbers.{numberAt, coordRead, coordinateAt, visitsRead, allowanceAt, numbersAt};
 
 // A text line, read.

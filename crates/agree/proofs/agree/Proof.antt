@@ -63,27 +63,15 @@ startA c = c .before .before .before
 abbrev startB : tie.After-enum-told2 → tie.Start
 startB c = startA (c .before .before .before)
 
-said-a : (c : tie.After-check-lengths) → checkedRefusal (c .check-lengths .result) ≡ refusalA (c .before)
-said-a c = c .check-lengths .ensures
-
-said-b : (c : tie.After-check-lengths2) → checkedRefusal (c .check-lengths2 .result) ≡ refusalB (startA (c .before))
-said-b c = c .check-lengths2 .ensures
-
 fine-a : (c : tie.After-enum-told) → refusalA (startA c) ≡ none
 fine-a c =
     let e : c .before .before .check-lengths .result ≡ Fine = cc in
-    sym (said-a (c .before .before)) ∙ ap checkedRefusal e
+    sym (c .before .before .check-lengths .ensures) ∙ ap checkedRefusal e
 
 fine-b : (c : tie.After-enum-told2) → refusalB (startB c) ≡ none
 fine-b c =
     let e : c .before .before .check-lengths2 .result ≡ Fine = cc in
-    sym (said-b (c .before .before)) ∙ ap checkedRefusal e
-
-lengths-a : (c : tie.After-enum-told) → LengthsFine (pointsA (startA c)) (tableA (startA c))
-lengths-a c = lengths-fine LineA _ _ (fine-a c)
-
-lengths-b : (c : tie.After-enum-told2) → LengthsFine (pointsB (startB c)) (tableB (startB c))
-lengths-b c = lengths-fine LineB _ _ (fine-b c)
+    sym (c .before .before .check-lengths2 .ensures) ∙ ap checkedRefusal e
 
 distance-said : (c : tie.After-distance-fits)
     → c .distance-fits .result ≡ distanceFits (startB (c .before) .args .distance)
@@ -106,13 +94,13 @@ returns c =
     let t = c .before .before in
     let k = t .before .before in
     c .refuses .ensures
-    ∙ decided (k .before) (sym (said-a k) ∙ ap checkedRefusal (t .checked-a .given .1)) refl refl
+    ∙ decided (k .before) (sym (k .check-lengths .ensures) ∙ ap checkedRefusal (t .checked-a .given .1)) refl refl
 
 returns-2 : tie.Need-returns-2
 returns-2 c =
     let t = c .before .before in
     let k = t .before .before in
-    let e = sym (said-b k) ∙ ap checkedRefusal (t .checked-b .given .1) in
+    let e = sym (k .check-lengths2 .ensures) ∙ ap checkedRefusal (t .checked-b .given .1) in
     c .refuses2 .ensures ∙ decided (startA (k .before)) (fine-a (k .before)) e refl
 
 returns-3 : tie.Need-returns-3
@@ -135,38 +123,37 @@ start c = startB (c .before .before)
 -- what is known of both lines and of the distance
 lengths : (c : tie.Else1)
     → LengthsFine (pointsA (start c)) (tableA (start c)) × LengthsFine (pointsB (start c)) (tableB (start c))
-lengths c = (lengths-a (c .before .before .before .before .before), lengths-b (c .before .before))
+lengths c =
+    let k = c .before .before in
+    (lengths-fine LineA _ _ (fine-a (k .before .before .before)), lengths-fine LineB _ _ (fine-b k))
 
 distance-small : (c : tie.Else1) → Abs≤ farthest (toZ w64 (ofZ w64 (start c .args .distance)))
 distance-small c = stored-abs (distance-abs (start c .args .distance) (T-true (fits c))) tt
 
-ends-on-sheet-requires : tie.Need-ends-on-sheet-requires
-ends-on-sheet-requires c κs = lengths c .1 .some-points
+-- A's points against B, and B's against A
+abbrev first : tie.Start → Asked
+first s =
+    askAll LineA (pointsA s) LineB (pointsB s) (tableB s) (s .args .distance) 0 (pointsOf (pointsA s))
+    (fresh (s .args .allowance))
 
--- A's points against B, and B's against A, at a distance
-abbrev first : tie.Start → ℤ → Asked
-first s d =
-    askAll LineA (pointsA s) LineB (pointsB s) (tableB s) d 0 (pointsOf (pointsA s)) (fresh (s .args .allowance))
-
-abbrev second : tie.Start → ℤ → Tally → Asked
-second s d v = askAll LineB (pointsB s) LineA (pointsA s) (tableA s) d 0 (pointsOf (pointsB s)) v
+abbrev second : tie.Start → Tally → Asked
+second s = askAll LineB (pointsB s) LineA (pointsA s) (tableA s) (s .args .distance) 0 (pointsOf (pointsB s))
 
 -- the whole, from the start
 abbrev whole : tie.Start → Asked
 whole s = agreeWalk (pointsA s) (tableA s) (pointsB s) (tableB s) (s .args .distance) (fresh (s .args .allowance))
 
 -- A's points are asked: with B's after them it is the whole
-after-first : (s : tie.Start) {x : Asked} → x ≡ first s (s .args .distance)
-    → onAllNear x (second s (s .args .distance)) ≡ whole s
+after-first : (s : tie.Start) {x : Asked} → x ≡ first s → onAllNear x (second s) ≡ whole s
 unfolding agreeWalk
-after-first s e = ap (λ (x : Asked). onAllNear x (second s (s .args .distance))) e
+after-first s e = ap (λ (x : Asked). onAllNear x (second s)) e
 
 -- what the walks come to is the reply
-answered : (c : tie.Else1) {x : Asked} → x ≡ whole (start c) → agreed (start c .args .allowance) x ≡ reply (start c)
-answered c e =
+answered : (c : tie.Else1) {x : Asked} {r : Reply}
+    → r ≡ agreed (start c .args .allowance) x → x ≡ whole (start c) → r ≡ reply (start c)
+answered c said e =
     let k = c .before .before in
-    ap (agreed (start c .args .allowance)) e
-    ∙ decided (start c) (fine-a (k .before .before .before)) (fine-b k) (fits c)
+    (rw e at said) ∙ decided (start c) (fine-a (k .before .before .before)) (fine-b k) (fits c)
 
 -- ---------------- B begins or ends off the sheet
 bad-start-requires : tie.Need-bad-start-requires
@@ -180,8 +167,7 @@ returns-4 c =
     let a = s .args in
     let r = w .bad-start .result in
     let off = sym (w .before .before .ends-on-sheet .ensures) ∙ not-true _ (w .before .if2 .taken) in
-    c .agreement .ensures
-    ∙ answered k
+    answered k (c .agreement .ensures)
     (stops LineA LineB (r .at) (a .allowance) (r .ending) _ (λ q. omega (arith, w .bad-start .ensures .1, q))
     ∙ after-first s (w .bad-start .ensures .0 (pointsB s) (tableB s) (a .distance) (lengths k .1) off LineA LineB))
 
@@ -199,12 +185,12 @@ passed c = c .before .before .before .before .before
 first-asked : (c : tie.After-ask-all)
     → onAllNear
     (asked LineA LineB (c .ask-all .result .at) (start (passed c) .args .allowance) (c .ask-all .result .ending))
-    (second (start (passed c)) (start (passed c) .args .distance))
+    (second (start (passed c)))
     ≡ whole (start (passed c))
 first-asked c =
     let s = start (passed c) in
     let d = toZ-ofZ {w = w64} (s .fits .distance) in
-    after-first s (c .ask-all .ensures LineA LineB ∙ ap (first s) d)
+    after-first s (rw d at (c .ask-all .ensures LineA LineB))
 
 returns-5 : tie.Need-returns-5
 returns-5 c =
@@ -212,8 +198,7 @@ returns-5 c =
     let k = passed w in
     let r = w .ask-all .result in
     let e = c .before .before .end-in .ensures in
-    c .agreement2 .ensures
-    ∙ answered k
+    answered k (c .agreement2 .ensures)
     (stops LineA LineB (r .at) (start k .args .allowance) (r .ending) _ (λ q. c .before .if3 .taken (e ∙ q))
     ∙ first-asked w)
 
@@ -226,27 +211,17 @@ begin c = start (passed (asked-a c))
 
 after-both : (c : tie.After-tally-in) (i r : ℕ)
     → asked LineB LineA i (c .tally-in .result .allowance) r
-    ≡ second (begin c) (begin c .args .distance) (c .tally-in .result)
+    ≡ second (begin c) (c .tally-in .result)
     → asked LineB LineA i (begin c .args .allowance) r ≡ whole (begin c)
 after-both c i ending q =
     let w = asked-a c in
-    let s = begin c in
-    let a = s .args in
     let r = w .ask-all .result in
     let e = c .before .before .end-in .ensures in
     let near : endIn (r .ending) ≡ 2 = omega (arith, e, c .before .if3 .left) in
     ap (λ (y : Tally). asked LineB LineA i (y .allowance) ending) (sym (c .tally-in .ensures))
     ∙ q
-    ∙ ap (second s (a .distance)) (c .tally-in .ensures)
-    ∙ sym (ap (λ (x : Asked). onAllNear x (second s (a .distance)))
-    (is-near LineA LineB (r .at) (a .allowance) (r .ending) near))
-    ∙ first-asked w
-
-ends-on-sheet-requires-2 : tie.Need-ends-on-sheet-requires-2
-ends-on-sheet-requires-2 c κs = lengths (passed (asked-a c)) .0 .some-points
-
-bad-start-requires-2 : tie.Need-bad-start-requires-2
-bad-start-requires-2 c κs = omega (arith, lengths (passed (asked-a (c .before .before))) .1 .some-points)
+    ∙ ap (second (begin c)) (c .tally-in .ensures)
+    ∙ (rw (is-near LineA LineB (r .at) (begin c .args .allowance) (r .ending) near) at (first-asked w))
 
 returns-6 : tie.Need-returns-6
 returns-6 c =
@@ -256,8 +231,7 @@ returns-6 c =
     let s = start k in
     let b = w .bad-start2 in
     let off = sym (w .before .before .ends-on-sheet2 .ensures) ∙ not-true _ (w .before .if4 .taken) in
-    c .agreement3 .ensures
-    ∙ answered k
+    answered k (c .agreement3 .ensures)
     (after-both o (b .result .at) (b .result .ending)
     (b .ensures .0 (pointsA s) (tableA s) (s .args .distance) (lengths k .0) off LineB LineA))
 
@@ -271,19 +245,17 @@ returns-7 : tie.Need-returns-7
 returns-7 c =
     let o = c .before .before .before .before .before .before in
     let k = passed (asked-a o) in
-    let s = start k in
-    let d = toZ-ofZ {w = w64} (s .fits .distance) in
+    let d = toZ-ofZ {w = w64} (start k .fits .distance) in
     let b = c .before .ask-all2 in
-    c .agreement4 .ensures
-    ∙ answered k
-    (after-both o (b .result .at) (b .result .ending)
-    (b .ensures LineB LineA ∙ (λ i. second s (d i) (o .tally-in .result))))
+    answered k (c .agreement4 .ensures)
+    (after-both o (b .result .at) (b .result .ending) (rw d at (b .ensures LineB LineA)))
 
 pub agree-spec : {M : Type 1} → statement M
 agree-spec =
     tie.close (tie.spec
-    (search needs) (search needs) (search needs) returns (search needs) (search needs) (search needs)
-    (search needs) returns-2 (search needs) (search needs) (search needs) (search needs) returns-3
-    ends-on-sheet-requires bad-start-requires (search needs) returns-4 ask-all-requires (search needs)
-    (search needs) returns-5 (search needs) ends-on-sheet-requires-2 bad-start-requires-2 (search needs) returns-6
+    (search needs) (search needs) (search needs) returns (search needs) (search needs) (search needs) (search needs)
+    returns-2 (search needs) (search needs) (search needs) (search needs) returns-3 (λ c κs. lengths c .1 .some-points)
+    bad-start-requires (search needs) returns-4 ask-all-requires (search needs) (search needs) returns-5 (search needs)
+    (λ c κs. lengths (passed (asked-a c)) .0 .some-points)
+    (λ c κs. omega (arith, lengths (passed (asked-a (c .before .before))) .1 .some-points)) (search needs) returns-6
     ask-all-requires-2 (search needs) returns-7)

@@ -37,7 +37,8 @@ returns-3 : tie.Need-returns-3
 returns-3 c =
     let t = c .before in
     let a = t .before .before .before .before .before .args in
-    let e = t .before .before .before .before .end-in .ensures in
+    let asked = t .before .before .before .before in
+    let e = asked .end-in .ensures in
     c .says2 .ensures
     ∙ sym (ap (agreed (a .allowance))
     (is-unasked (a .line) (a .other) (a .stopped .at) (a .allowance) (a .stopped .ending) (sym e ∙ t .if3 .taken)))
@@ -57,7 +58,8 @@ returns-5 : tie.Need-returns-5
 returns-5 c =
     let k = c .before .before in
     let a = k .before .before .before .before .before .before .args in
-    let e = k .before .before .before .before .before .end-in .ensures in
+    let asked = k .before .before .before .before .before in
+    let e = asked .end-in .ensures in
     let big : badRow ≤ endIn (a .stopped .ending) =
     omega (arith, e, k .before .before .before .if1 .left, k .before .before .if2 .left, k .before .if3 .left) in
     c .refuses2 .ensures

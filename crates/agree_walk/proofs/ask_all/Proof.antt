@@ -59,17 +59,13 @@ after-point : (c : tie.After-ask-point Inv-loop μ-loop) (line other : Line)
     ≡ asks (start c) line other 0 (count (start c)) (start c .args .tally)
 after-point c line other =
     let s = start c in
-    let i = at c in
     let a = s .args in
-    let y = c .before .tally-in .ensures in
     let l = c .before .before .before .loop in
-    ap (λ (x : Asked). onAllNear x (asks s line other (i + 1) (count s - (i + 1))))
-    (ap (λ (x : Tally). asked line other i (x .allowance) (c .ask-point .result)) (sym y)
-    ∙ c .ask-point .ensures line other
-    ∙ (λ j. asks s line other i 1 (y j)))
-    ∙ sym (next-point line (a .points .now) other (a .theirs .now .now) (a .table .now .now) (toZ w64 (ofZ w64 (a .d)))
-    (count s) i (tallyIn (a .tally .allowance) (l .ending)) (c .before .before .loop-test .taken))
-    ∙ l .inv .2 line other
+    let said = rw (c .before .tally-in .ensures) at (c .ask-point .ensures line other) in
+    rw said
+    (sym (next-point line (a .points .now) other (a .theirs .now .now) (a .table .now .now) (toZ w64 (ofZ w64 (a .d)))
+    (count s) (at c) (tallyIn (a .tally .allowance) (l .ending)) (c .before .before .loop-test .taken))
+    ∙ l .inv .2 line other)
 
 loop-holds : tie.Need-loop-holds Inv-loop μ-loop
 loop-holds c =
@@ -86,7 +82,8 @@ loop-holds c =
 
 ask-point-requires : tie.Need-ask-point-requires Inv-loop μ-loop
 ask-point-requires c κs =
-    let p = c .before .before .before .before .pre in
+    let begun = c .before .before .before .before in
+    let p = begun .pre in
     (omega (arith, c .before .loop-test .taken), (p .0, p .1, stored-abs (p .2) tt))
 
 returns : tie.Need-returns Inv-loop μ-loop
@@ -100,16 +97,13 @@ returns c line other =
 loop-again : tie.Need-loop-again Inv-loop μ-loop
 loop-again c =
     let p = c .before .before in
-    let s = start p in
-    let i = at p in
     let e = c .before .end-in .ensures in
     let near : endIn (p .ask-point .result) ≡ 2 = omega (arith, e, c .if1 .left) in (
       omega (arith, p .before .before .loop-test .taken),
       near,
       λ line other.
-          sym (ap (λ (x : Asked). onAllNear x (asks s line other (i + 1) (count s - (i + 1))))
-          (is-near line other i (s .args .tally .allowance) (p .ask-point .result) near))
-          ∙ after-point p line other,
+          rw (is-near line other (at p) (start p .args .tally .allowance) (p .ask-point .result) near)
+          at (after-point p line other),
     )
 
 returns-2 : tie.Need-returns-2 Inv-loop μ-loop

@@ -62,7 +62,7 @@ walked c l m =
     let s = start c in
     let d = stored (s .pre .1 .2) tt in
     let p = c .before .before .before .point-at .ensures in
-    c .ask .ensures l m ∙ (λ j. nearWalk l (theirs s) (table s) (p j) (d j) (s .args .tally))
+    rw (p, d) at (c .ask .ensures l m)
 
 returns-2 : tie.Need-returns-2
 returns-2 c line other =

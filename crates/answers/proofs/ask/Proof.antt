@@ -6,10 +6,8 @@ use mir.Syntax.{w32, w64}
 use mir.Val.{SFits}
 use mir.Facts.{toZ-ofZ}
 use Rattle.integers.specs.Machine.{result}
-use Rattle.rules.specs.declared.Point.{Point}
 use Rattle.rules.specs.declared.Reply.{Reply}
 use Rattle.rules.specs.Build.{tableOf}
-use Rattle.rules.specs.Questions.{nearReply, inReply, meetReply, agreeReply}
 use Rattle.words.specs.declared.Record.{Record}
 use Rattle.ready.specs.Readied.{HasRows}
 use Rattle.answers.specs.Asked.{neededBy, answerTo}
@@ -38,96 +36,61 @@ module _ (s : tie.Start) where
   came : {q : Record} → s .args .«record» ≡ q → reply q ≡ reply (s .args .«record»)
   came e = sym (ap reply e)
 
--- ---------------- NEAR
-rows-requires : tie.Need-rows-requires
-rows-requires c κs = has-rows (c .before .before .before) (c .before .«record» .given .1)
+-- ---------------- the numbers of the record are the machine's
+near-fits : (c : tie.After-known-told) → let q = c .before .«record» .given .0 in
+    SFits w32 (q .0) × SFits w32 (q .1 .0) × SFits w32 (q .1 .1 .0)
+near-fits c = (search needs, search needs, search needs)
 
-near-x : (c : tie.After-known-told) → SFits w32 (c .before .«record» .given .0 .0)
-near-x c = search needs
+in-fits : (c : tie.After-known-told2) → let q = c .before .record2 .given .0 in SFits w32 (q .0) × SFits w32 (q .1 .0)
+in-fits c = (search needs, search needs)
 
-near-y : (c : tie.After-known-told) → SFits w32 (c .before .«record» .given .0 .1 .0)
-near-y c = search needs
+agree-fits : (c : tie.After-known-told4) → SFits w32 (c .before .record4 .given .0 .0)
+agree-fits c = search needs
 
-near-distance : (c : tie.After-known-told) → SFits w32 (c .before .«record» .given .0 .1 .1 .0)
-near-distance c = search needs
-
-returns : tie.Need-returns
-returns c =
+-- ---------------- the replies
+near-returns : tie.Need-returns
+near-returns c =
     let w = c .before in
-    let z = w .before in
-    let t = z .before in
+    let t = w .before .before in
     let k = t .before in
     let s = k .before .before .before in
     let q = k .before .«record» .given in
-    let point = z .point .ensures ∙ (λ i. record { x = toZ-ofZ (near-x k) i; y = toZ-ofZ (near-y k) i }) in
-    let distance = result w64 (w .wide .ok) (w .wide .ensures ∙ toZ-ofZ (near-distance k)) in
-    c .near .ensures
-    ∙ (λ i. nearReply (pointsA s) (t .rows .ensures i) (point i) (distance i) (q .0 .1 .1 .1 .0))
-    ∙ came s (q .1)
+    let fits = near-fits k in
+    let point = w .before .point .ensures ∙ (λ i. record { x = toZ-ofZ (fits .0) i; y = toZ-ofZ (fits .1) i }) in
+    let distance = result w64 (w .wide .ok) (w .wide .ensures ∙ toZ-ofZ (fits .2)) in
+    rw (t .rows .ensures, point, distance, came s (q .1)) at (c .near .ensures)
 
--- ---------------- IN
-rows-requires-2 : tie.Need-rows-requires-2
-rows-requires-2 c κs = has-rows (c .before .before .before) (c .before .record2 .given .1)
-
-in-x : (c : tie.After-known-told2) → SFits w32 (c .before .record2 .given .0 .0)
-in-x c = search needs
-
-in-y : (c : tie.After-known-told2) → SFits w32 (c .before .record2 .given .0 .1 .0)
-in-y c = search needs
-
-returns-2 : tie.Need-returns-2
-returns-2 c =
-    let z = c .before in
-    let t = z .before in
+in-returns : tie.Need-returns-2
+in-returns c =
+    let t = c .before .before in
     let k = t .before in
     let s = k .before .before .before in
     let q = k .before .record2 .given in
-    let point = z .point2 .ensures ∙ (λ i. record { x = toZ-ofZ (in-x k) i; y = toZ-ofZ (in-y k) i }) in
-    c .inside .ensures ∙ (λ i. inReply (pointsA s) (t .rows2 .ensures i) (point i) (q .0 .1 .1 .0)) ∙ came s (q .1)
+    let fits = in-fits k in
+    let point = c .before .point2 .ensures ∙ (λ i. record { x = toZ-ofZ (fits .0) i; y = toZ-ofZ (fits .1) i }) in
+    rw (t .rows2 .ensures, point, came s (q .1)) at (c .inside .ensures)
 
--- ---------------- MEET
-rows-requires-3 : tie.Need-rows-requires-3
-rows-requires-3 c κs = has-rows (c .before .before .before) (c .before .record3 .given .1) .0
-
-rows-requires-4 : tie.Need-rows-requires-4
-rows-requires-4 c κs = let k = c .before in has-rows (k .before .before .before) (k .before .record3 .given .1) .1
-
-returns-3 : tie.Need-returns-3
-returns-3 c =
-    let tb = c .before in
-    let ta = tb .before in
-    let k = ta .before in
+meet-returns : tie.Need-returns-3
+meet-returns c =
+    let t = c .before .before in
+    let k = t .before in
     let s = k .before .before .before in
     let q = k .before .record3 .given in
-    c .meet .ensures
-    ∙ (λ i. meetReply (pointsA s) (ta .rows3 .ensures i) (pointsB s) (tb .rows4 .ensures i) (q .0 .0))
-    ∙ came s (q .1)
+    rw (t .rows3 .ensures, c .before .rows4 .ensures, came s (q .1)) at (c .meet .ensures)
 
--- ---------------- AGREE
-rows-requires-5 : tie.Need-rows-requires-5
-rows-requires-5 c κs = has-rows (c .before .before .before) (c .before .record4 .given .1) .0
-
-rows-requires-6 : tie.Need-rows-requires-6
-rows-requires-6 c κs = let k = c .before in has-rows (k .before .before .before) (k .before .record4 .given .1) .1
-
-agree-distance : (c : tie.After-known-told4) → SFits w32 (c .before .record4 .given .0 .0)
-agree-distance c = search needs
-
-returns-4 : tie.Need-returns-4
-returns-4 c =
+agree-returns : tie.Need-returns-4
+agree-returns c =
     let w = c .before in
-    let tb = w .before in
-    let ta = tb .before in
-    let k = ta .before in
+    let t = w .before .before in
+    let k = t .before in
     let s = k .before .before .before in
     let q = k .before .record4 .given in
-    let distance = result w64 (w .wide2 .ok) (w .wide2 .ensures ∙ toZ-ofZ (agree-distance k)) in
-    c .agree .ensures
-    ∙ (λ i. agreeReply (pointsA s) (ta .rows5 .ensures i) (pointsB s) (tb .rows6 .ensures i) (distance i) (q .0 .1 .0))
-    ∙ came s (q .1)
+    let tb = w .before .rows6 .ensures in
+    let distance = result w64 (w .wide2 .ok) (w .wide2 .ensures ∙ toZ-ofZ (agree-fits k)) in
+    rw (t .rows5 .ensures, tb, distance, came s (q .1)) at (c .agree .ensures)
 
-returns-5 : tie.Need-returns-5
-returns-5 c =
+other-returns : tie.Need-returns-5
+other-returns c =
     let s = c .before .before in
     let ps = pointsA s in
     let qs = pointsB s in
@@ -137,8 +100,13 @@ returns-5 c =
 pub ask-spec : {M : Type 1} → statement M
 ask-spec =
     tie.close (tie.spec
-    (search needs) rows-requires (search needs) (search needs) (search needs)
-    (search needs) rows-requires-2 (search needs) (search needs)
-    (search needs) rows-requires-3 rows-requires-4 (search needs)
-    (search needs) rows-requires-5 rows-requires-6 (search needs) (search needs)
-    (search needs) returns returns-2 returns-3 returns-4 returns-5)
+    (search needs) (λ c κs. has-rows (c .before .before .before) (c .before .«record» .given .1))
+    (search needs) (search needs) (search needs)
+    (search needs) (λ c κs. has-rows (c .before .before .before) (c .before .record2 .given .1))
+    (search needs) (search needs)
+    (search needs) (λ c κs. has-rows (c .before .before .before) (c .before .record3 .given .1) .0)
+    (λ c κs. let k = c .before in has-rows (k .before .before .before) (k .before .record3 .given .1) .1) (search needs)
+    (search needs) (λ c κs. has-rows (c .before .before .before) (c .before .record4 .given .1) .0)
+    (λ c κs. let k = c .before in has-rows (k .before .before .before) (k .before .record4 .given .1) .1)
+    (search needs) (search needs) (search needs) near-returns in-returns meet-returns agree-returns
+    other-returns)

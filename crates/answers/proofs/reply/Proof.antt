@@ -1,5 +1,5 @@
 -- `reply`: what readying told is told; where the tables stand, the record is asked of what is stored.
-use mathlib.Core.Path.{_≡_, sym, _∙_, subst⁻¹}
+use mathlib.Core.Path.{sym, subst⁻¹}
 use mathlib.Core.List.{List}
 use lib.IntN.{ℤ}
 use Rattle.rules.specs.declared.Reply.{Reply}
@@ -70,10 +70,13 @@ returns-2 c =
     let told = a .before in
     let r = told .before .before .before .before in
     let s = start r in (
-      c .ask .ensures
-          ∙ (λ i. ask s (a .stored .ensures i) (b .stored2 .ensures i))
-          ∙ goes (ask s (storeA s .points) (storeB s .points)) (told .enum-told .given .1)
-          (readies r .reply (question s)),
+      rw (
+        a .stored .ensures,
+        b .stored2 .ensures,
+        goes (ask s (storeA s .points) (storeB s .points))
+            (told .enum-told .given .1) (readies r .reply (question s)),
+      )
+          at (c .ask .ensures),
       (readies r .first, readies r .second),
     )
 

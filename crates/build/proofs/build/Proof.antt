@@ -1,14 +1,10 @@
 -- `build`: refused, or the rows of the root.
 use mathlib.Core.Path.{_≡_, refl, sym, ap, _∙_}
-use mathlib.Core.List.{_++_}
 use mathlib.Core.Option.{none}
-use Prim.Native.Nat.{ℕ, _*_}
 use native.Mathlib.Nat.{sub-zero}
 use native.Mathlib.Omega.{arith}
-use lib.ListN.{drop}
 use Rattle.rules.specs.declared.Built.the-variants.{Written}
 use Rattle.rules.specs.Sheet.{segmentsOf}
-use Rattle.rules.specs.Tree.{width, rowCount}
 use Rattle.rules.specs.Reply.{builtRefusal}
 use Rattle.rules.specs.Build.{buildRefusal, tableOf}
 use Rattle.table_truth.specs.Accepted.{Accepted}
@@ -37,9 +33,6 @@ fine : (c : tie.After-enum-told) → Accepted (c .before .before .before .args .
     (c .before .before .before .args .table .now)
 fine c = accepted _ _ (passed c)
 
-sub-build-node : tie.Need-sub-build-node
-sub-build-node c = omega (arith, fine c .lengths .some-points)
-
 build-node-requires : tie.Need-build-node-requires
 build-node-requires c κs =
     let y = fine (c .before) in
@@ -58,13 +51,12 @@ returns-2 c =
     let e = passed (c .before .before .before) in
     let n = sub-zero (segmentsOf (a .points .now)) in (
       sym e,
-      c .before .build-node .ensures (segmentsOf (a .points .now)) (omega arith)
-          ∙ ap (λ (k : ℕ). tableOf (a .points .now) ++ drop (width * rowCount k) (a .table .now)) n
-          ∙ sym (built-whole (a .points .now) (a .table .now) e),
+      rw (built-whole (a .points .now) (a .table .now) e)
+          (rw n at (c .before .build-node .ensures (segmentsOf (a .points .now)) (omega arith))),
     )
 
 pub build-spec : {M : Type 1} → statement M
 build-spec =
     tie.close (tie.spec
-    (search needs) (search needs) returns (search needs) sub-build-node build-node-requires (search needs)
-    returns-2)
+    (search needs) (search needs) returns (search needs) (λ c. omega (arith, fine c .lengths .some-points))
+    build-node-requires (search needs) returns-2)

@@ -75,16 +75,10 @@ returns-5 c t n =
     let equal = sym (q .lowest-equal .ensures) in
     simp (past-four (q .before) t, equal, lt-ltb _ _ (c .before .if5 .taken), c .refuse5 .ensures)
 
-returns-6 : tie.Need-returns-6
-returns-6 c t n =
-    simp (past-five (c .before .before) t, n, lt-ltb _ _ (c .before .if6 .taken), c .refuse6 .ensures)
-
-returns-7 : tie.Need-returns-7
-returns-7 c t n = simp (past-five (c .before) t, n, le-ltb _ _ (c .if6 .left))
-
 pub check-spec : {M : Type 1} → statement M
 check-spec =
     tie.close (tie.spec
-    (search needs) returns (search needs) returns-2 (search needs) returns-3 (search needs) (search needs)
-    returns-4 (search needs) (search needs) (search needs) returns-5 (search needs) (search needs) (search needs)
-    (search needs) returns-6 returns-7)
+    (search needs) returns (search needs) returns-2 (search needs) returns-3 (search needs) (search needs) returns-4
+    (search needs) (search needs) (search needs) returns-5 (search needs) (search needs) (search needs) (search needs)
+    (λ c t n. simp (past-five (c .before .before) t, n, lt-ltb _ _ (c .before .if6 .taken), c .refuse6 .ensures))
+    (λ c t n. simp (past-five (c .before) t, n, le-ltb _ _ (c .if6 .left))))

@@ -34,20 +34,12 @@ told c =
     let j = c .before .point-at2 .ensures ∙ ap (point ps) (add-one (atTest c .loop .i)) in
     c .same-point .ensures ∙ (λ d. samePoint (i d) (j d))
 
-loop-holds : tie.Need-loop-holds Inv-loop μ-loop
-loop-holds c = none-passed (equalNext (c .args .points .now)) (c .args .segments)
-
-returns : tie.Need-returns Inv-loop μ-loop
-returns c = let k = c .before in found (atTest k .loop .inv) (omega arith) (sym (told k) ∙ c .if1 .taken)
-
-loop-again : tie.Need-loop-again Inv-loop μ-loop
-loop-again c = let k = c .before in one-passed (atTest k .loop .inv) (omega arith) (sym (told k) ∙ c .if1 .left)
-
-returns-2 : tie.Need-returns-2 Inv-loop μ-loop
-returns-2 c = all-passed (c .before .loop .inv) (omega arith)
-
 pub lowest-equal-spec : {M : Type 1} → statement M
 lowest-equal-spec =
     tie.close (tie.spec
-    Inv-loop μ-loop loop-holds (search needs) (search needs) (search needs) (search needs) returns (search needs)
-    (search needs) loop-again returns-2)
+    Inv-loop μ-loop (λ c. none-passed (equalNext (c .args .points .now)) (c .args .segments)) (search needs)
+    (search needs) (search needs) (search needs)
+    (λ c. let k = c .before in found (atTest k .loop .inv) (omega arith) (sym (told k) ∙ c .if1 .taken)) (search needs)
+    (search needs)
+    (λ c. let k = c .before in one-passed (atTest k .loop .inv) (omega arith) (sym (told k) ∙ c .if1 .left))
+    (λ c. all-passed (c .before .loop .inv) (omega arith)))

@@ -15,9 +15,6 @@ Inv-loop points count i₀ i = Passed (offSheet points) count i
 abbrev μ-loop : tie.MeasureT-loop
 μ-loop points count i₀ i = count - i
 
-loop-holds : tie.Need-loop-holds Inv-loop μ-loop
-loop-holds c = none-passed (offSheet (c .args .points .now)) (c .args .count)
-
 returns : tie.Need-returns Inv-loop μ-loop
 returns c =
     let asked = c .before in
@@ -29,10 +26,8 @@ loop-again c =
     one-passed (asked .before .before .loop .inv) (omega arith)
     (sym (ap not (asked .on-sheet-at .ensures)) ∙ c .if1 .left)
 
-returns-2 : tie.Need-returns-2 Inv-loop μ-loop
-returns-2 c = all-passed (c .before .loop .inv) (omega arith)
-
 pub lowest-off-spec : {M : Type 1} → statement M
 lowest-off-spec =
     tie.close (tie.spec
-    Inv-loop μ-loop loop-holds (search needs) returns (search needs) (search needs) loop-again returns-2)
+    Inv-loop μ-loop (λ c. none-passed (offSheet (c .args .points .now)) (c .args .count)) (search needs) returns
+    (search needs) (search needs) loop-again (λ c. all-passed (c .before .loop .inv) (omega arith)))

@@ -1,5 +1,5 @@
 -- `feed_byte` goes by the byte: a line feed ends the text line, and any other byte is kept.
-use Rattle.records.specs.Left.{Slices, slices}
+use Rattle.records.specs.Left.{Slices, numbers, slices}
 use Rattle.store.proofs.Texts.{pending-bytes}
 use Rattle.byte.proofs.Byte.{byte-kept, byte-ends}
 use borrow.Author.Needs.{needs}
@@ -24,18 +24,16 @@ slice-aggregate-take-text c =
     let s = start (ending c .before) in
     pending-bytes (s .args .text .now) (s .pre .1 .0 .0) (s .pre .0 .1 .kept)
 
-print-outcome-requires : tie.Need-print-outcome-requires
-print-outcome-requires c κs = start (ending (outcome c .before) .before) .pre .1 .0 .1
-
 returns : tie.Need-returns
 returns c =
     let printed = c .before .before in
     let taken = outcome (printed .before) in
     let feed = ending (taken .before) in
     let s = start (feed .before) in
-    byte-ends (lent s) (s .pre .0 .1) (s .args .out .now) (s .args .fed .wrote) (feed .if1 .taken)
-    (taken .take-text .ensures)
-    (printed .print-outcome .ensures)
+    let left = taken .take-text .last .1 in
+    byte-ends (lent s) (s .pre .0 .1) (s .args .out .now) (s .args .fed .wrote)
+    (numbers (left .0) (left .1 .0) (left .1 .1 .0) (left .1 .1 .1 .0)) (feed .if1 .taken)
+    (taken .take-text .ensures) (printed .print-outcome .ensures)
 
 returns-2 : tie.Need-returns-2
 returns-2 c =
@@ -47,19 +45,8 @@ returns-2 c =
 
 pub feed-byte-spec : {M : Type 1} → statement M
 feed-byte-spec =
-    tie.close
-    (tie.spec
-    (λ c. search needs)
-    slice-aggregate-take-text
-    (λ c κs. search needs)
-    print-outcome-requires
-    (λ c. search needs)
-    (λ c. search needs)
-    (λ c. search needs)
-    (λ c. search needs)
-    (λ c. search needs)
-    (λ c. search needs)
-    returns
-    (λ c κs. search needs)
-    (λ c. search needs)
-    returns-2)
+    tie.close (tie.spec
+    (λ c. search needs) slice-aggregate-take-text (λ c κs. search needs)
+    (λ c κs. start (ending (outcome c .before) .before) .pre .1 .0 .1) (λ c. search needs) (λ c. search needs)
+    (λ c. search needs) (λ c. search needs) (λ c. search needs) (λ c. search needs) returns (λ c κs. search needs)
+    (λ c. search needs) returns-2)

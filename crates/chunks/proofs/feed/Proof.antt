@@ -35,9 +35,7 @@ loop-holds c =
     let s = start c in
     let n = numbers (s .args .a .now) (s .args .b .now) (s .args .table-a .now) (s .args .table-b .now) in
     fed-none (s .args .state) (record { numbers = n; text = s .args .text .now }) (s .args .chunk .now)
-    (s .args .out .now)
-    (record { lent = s .pre .0 .0; text = s .pre .1 .0 .0 })
-    (s .pre .0 .1)
+    (s .args .out .now) (record { lent = s .pre .0 .0; text = s .pre .1 .0 .0 }) (s .pre .0 .1)
 
 feed-byte-requires : tie.Need-feed-byte-requires Inv-loop μ-loop
 feed-byte-requires c κs =
@@ -56,9 +54,6 @@ add-i c =
     let most = start (at .before .before) .pre .1 .1 in
     omega arith
 
-loop-less : tie.Need-loop-less Inv-loop μ-loop
-loop-less c = let more = round (fed c .before) .loop-test .taken in omega arith
-
 loop-again : tie.Need-loop-again Inv-loop μ-loop
 loop-again c =
     let at = round (fed c .before) in
@@ -67,7 +62,9 @@ loop-again c =
     let byte = fed c .feed-byte in
     let same = byte .kept .1 in
     let same-text = same .1 .1 .1 .1 in
-    fed-more so-far (at .loop-test .taken) (byte .ensures)
+    let left = byte .last .1 in
+    fed-more so-far (slices (left .0) (left .1 .0) (left .1 .1 .0) (left .1 .1 .1 .0) (left .1 .1 .1 .1 .0))
+    (at .loop-test .taken) (byte .ensures)
     (record {
       lent = record {
         store-a = same .0 ∙ lent .store-a;
@@ -79,25 +76,10 @@ loop-again c =
     })
     (same-text .1 .1 .0)
 
-returns : tie.Need-returns Inv-loop μ-loop
-returns c = fed-all (c .before .loop .inv) (c .loop-test .left)
-
 pub feed-spec : {M : Type 1} → statement M
 feed-spec =
-    tie.close
-    (tie.spec
-    Inv-loop
-    μ-loop
-    loop-holds
-    (λ c. search needs)
-    feed-byte-requires
-    add-i
-    loop-less
-    loop-again
-    (λ c. search needs)
-    (λ c. search needs)
-    (λ c. search needs)
-    (λ c. search needs)
-    (λ c. search needs)
-    (λ c. search needs)
-    returns)
+    tie.close (tie.spec
+    Inv-loop μ-loop loop-holds (λ c. search needs) feed-byte-requires add-i
+    (λ c. let more = round (fed c .before) .loop-test .taken in omega arith) loop-again (λ c. search needs)
+    (λ c. search needs) (λ c. search needs) (λ c. search needs) (λ c. search needs) (λ c. search needs)
+    (λ c. fed-all (c .before .loop .inv) (c .loop-test .left)))

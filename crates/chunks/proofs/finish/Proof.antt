@@ -30,19 +30,14 @@ returns-2 c =
     let fed = ended c in
     let some = pending fed in
     let s = start (some .before) in
-    last-ends (s .args .state) (lent s) (s .args .out .now) (s .pre .1 .0 .0) (s .pre .0 .1) (some .if1 .left)
+    let left = fed .feed-byte .last .1 in
+    last-ends (s .args .state) (lent s) (s .args .out .now)
+    (slices (left .0) (left .1 .0) (left .1 .1 .0) (left .1 .1 .1 .0) (left .1 .1 .1 .1 .0)) (s .pre .1 .0 .0)
+    (s .pre .0 .1) (some .if1 .left)
     (fed .feed-byte .ensures)
 
 pub finish-spec : {M : Type 1} → statement M
 finish-spec =
-    tie.close
-    (tie.spec
-    returns
-    (λ c κs. search needs)
-    (λ c. search needs)
-    (λ c. search needs)
-    (λ c. search needs)
-    (λ c. search needs)
-    (λ c. search needs)
-    (λ c. search needs)
-    returns-2)
+    tie.close (tie.spec
+    returns (λ c κs. search needs) (λ c. search needs) (λ c. search needs) (λ c. search needs) (λ c. search needs)
+    (λ c. search needs) (λ c. search needs) returns-2)

@@ -64,11 +64,8 @@ returns-3 c =
     ∙ said k (is-spent tt tt LineA LineB (allowance k) (number k) (ended-at k (t .if3 .taken)))
 
 -- what is none of these is a bad row
-bad : (c : tie.Else3) → badRow ≤ endIn (c .before .before .before .before .args .ending)
+bad : (c : tie.Else3) → let s = c .before .before .before .before in badRow ≤ endIn (s .args .ending)
 bad c = search needs
-
-refusal-requires : tie.Need-refusal-requires
-refusal-requires c κs = bad c
 
 returns-4 : tie.Need-returns-4
 returns-4 c =
@@ -82,4 +79,4 @@ pub answer-spec : {M : Type 1} → statement M
 answer-spec =
     tie.close (tie.spec
     (search needs) (search needs) (search needs) returns (search needs) (search needs) returns-2 (search needs)
-    returns-3 refusal-requires (search needs) returns-4)
+    returns-3 (λ c κs. bad c) (search needs) returns-4)

@@ -37,29 +37,16 @@ was-good c = sym (c .before .splits-inside .ensures) ∙ not-false _ (c .if1 .le
 -- the rule of a split holds: whether z is clear of the node decides
 decided : (c : tie.After-clear-of) {clear : Bool} → c .clear-of .result ≡ clear
     → let s = c .before .before .before in saidBy s true clear ≡ saidBy s (fits s) (isClear s)
-decided c clear =
-    let s = c .before .before .before in
-    sym (λ i. saidBy s (was-good (c .before) i) ((sym (c .clear-of .ensures) ∙ clear) i))
-
-returns-2 : tie.Need-returns-2
-returns-2 c = ap Pass (c .crosses .ensures) ∙ decided (c .before .before) (c .before .if2 .taken)
+decided c clear = let good = was-good (c .before) in cc
 
 split-of-requires : tie.Need-split-of-requires
 split-of-requires c κs =
     let k = c .before .before in
     let a = k .before .before .args in split-above (a .r) (a .first) (a .last) (was-good k)
 
-returns-3 : tie.Need-returns-3
-returns-3 c = ap Halve (c .split-of .ensures) ∙ decided (c .before .before) (c .before .if2 .left)
-
 pub inner-step-spec : {M : Type 1} → statement M
 inner-step-spec =
-    tie.close
-    (tie.spec
-    (λ c κs. search needs)
-    returns
-    (λ c κs. search needs)
-    (λ c κs. search needs)
-    returns-2
-    split-of-requires
-    returns-3)
+    tie.close (tie.spec
+    (λ c κs. search needs) returns (λ c κs. search needs) (λ c κs. search needs)
+    (λ c. ap Pass (c .crosses .ensures) ∙ decided (c .before .before) (c .before .if2 .taken)) split-of-requires
+    (λ c. ap Halve (c .split-of .ensures) ∙ decided (c .before .before) (c .before .if2 .left)))

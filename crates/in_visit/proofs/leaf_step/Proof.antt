@@ -72,23 +72,9 @@ tested c on =
     let clear = sym (clear-said k) ∙ c .before .if2 .left in
     sym (λ i. saidBy (start k) (was-good (good k) i) (clear i) ((sym (c .on-segment .ensures) ∙ on) i))
 
-returns-3 : tie.Need-returns-3
-returns-3 c = tested (c .before) (c .if3 .taken)
-
-returns-4 : tie.Need-returns-4
-returns-4 c = ap Pass (c .crosses2 .ensures) ∙ tested (c .before .before) (c .before .if3 .left)
-
 pub leaf-step-spec : {M : Type 1} → statement M
 leaf-step-spec =
-    tie.close
-    (tie.spec
-    (λ c κs. search needs)
-    returns
-    (λ c κs. search needs)
-    clear-along-requires
-    (λ c κs. search needs)
-    returns-2
-    (λ c κs. search needs)
-    returns-3
-    (λ c κs. search needs)
-    returns-4)
+    tie.close (tie.spec
+    (λ c κs. search needs) returns (λ c κs. search needs) clear-along-requires (λ c κs. search needs) returns-2
+    (λ c κs. search needs) (λ c. tested (c .before) (c .if3 .taken)) (λ c κs. search needs)
+    (λ c. ap Pass (c .crosses2 .ensures) ∙ tested (c .before .before) (c .before .if3 .left)))

@@ -39,12 +39,6 @@ returns-2 c =
 
 pub visit-inner-spec : {M : Type 1} → statement M
 visit-inner-spec =
-    tie.close
-    (tie.spec
-    (λ c κs. search needs)
-    (λ c κs. search needs)
-    returns
-    (λ c κs. search needs)
-    (λ c κs. search needs)
-    inner-step-requires
-    returns-2)
+    tie.close (tie.spec
+    (λ c κs. search needs) (λ c κs. search needs) returns (λ c κs. search needs) (λ c κs. search needs)
+    inner-step-requires returns-2)

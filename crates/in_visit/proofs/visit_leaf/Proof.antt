@@ -37,12 +37,6 @@ returns-2 c =
 
 pub visit-leaf-spec : {M : Type 1} → statement M
 visit-leaf-spec =
-    tie.close
-    (tie.spec
-    (λ c κs. search needs)
-    (λ c κs. search needs)
-    returns
-    (λ c κs. search needs)
-    (λ c κs. search needs)
-    leaf-step-requires
-    returns-2)
+    tie.close (tie.spec
+    (λ c κs. search needs) (λ c κs. search needs) returns (λ c κs. search needs) (λ c κs. search needs)
+    leaf-step-requires returns-2)

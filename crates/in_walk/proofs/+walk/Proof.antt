@@ -15,11 +15,12 @@ use Rattle.rules.specs.declared.Point.{Point}
 use Rattle.rules.specs.declared.Tally.{Tally}
 use Rattle.rules.specs.declared.Next.the-variants.{Left, Spent}
 use Rattle.rules.specs.Sheet.{point, onSheet}
-use Rattle.rules.specs.Walk.{next, Visit, halve, walk as writtenWalk}
+use Rattle.rules.specs.Walk.{next, Visit, halve}
 use Rattle.rules.specs.Questions.{leftOf, rightOf, count, inVisit}
 use Rattle.line.proofs.Stored.{readBack, point-stored, stored-on}
 use Rattle.ending.proofs.OneLevel.{Level, says, below, none-left, yes-here, over-here, bad-here}
 use Rattle.ending.proofs.OneLevel.{left-stops, bad-left, right-goes}
+use Rattle.visits.specs.Nodes.{Inner}
 use Rattle.row.specs.Stands.{Stands, nodeAt}
 use Rattle.row.proofs.Parts.{end-off}
 use Rattle.row.proofs.Places.{row-small, left-stands, right-stands, left-ends, right-ends}
@@ -199,16 +200,16 @@ module _ (t : ℕ) where
   halves : (c : Opened) → halve (left c) (right c) ≡ does (start c) (node (start c))
   halves c = did (seen c) (c .before .split .given .1)
 
-  inside : (c : Opened) → (start c .args .first < split c) × (split c < start c .args .last)
+  inside : (c : Opened) → Inner (start c .args .first) (split c) (start c .args .last)
   inside c =
       let a = start c .args in
       subst (SplitsInside (a .first) (a .last)) (c .before .split .given .1) (seen c .visit2 .ensures .inside)
 
   left-in : (c : Opened) → Stands (points (start c)) (table (start c)) (left c)
-  left-in c = let i = inside c in left-stands (start c .pre .1 .0) (i .0) (i .1)
+  left-in c = left-stands (start c .pre .1 .0) (inside c)
 
   right-in : (c : Opened) → Stands (points (start c)) (table (start c)) (right c)
-  right-in c = let i = inside c in right-stands (start c .pre .1 .0) (i .0) (i .1)
+  right-in c = right-stands (start c .pre .1 .0) (inside c)
 
   split-on : (c : walk-lts.Else1 (claims t) (walk-at t) walk.Post)
       → T (onSheet (point (points (start (opened (c .before)))) (split (opened (c .before)))))
@@ -224,8 +225,7 @@ module _ (t : ℕ) where
       let o = halved c in
       let s = start o in
       let i = inside o in
-      c .walk .ensures (pred f) (omega arith)
-      ∙ (λ d. writtenWalk (inVisit (points s) (table s) (same s d)) (pred f) (left o) (s .args .odd) (counted (seen o)))
+      rw (same s) at (c .walk .ensures (pred f) (omega arith))
 
   -- ---------------- the needs that are not trivial, in the order of the code
   returns : walk-lts.Need-returns (claims t) (walk-at t) walk.Post
@@ -233,14 +233,6 @@ module _ (t : ℕ) where
       let k = c .before .before .before in
       let none : next (k .before .args .tally) ≡ Spent = cc in
       none-left (level (k .before) f enough) none (c .pack .ensures)
-
-  visit-requires : walk-lts.Need-visit-requires-2 (claims t) (walk-at t) walk.Post
-  visit-requires c κs =
-      let p = begun (c .before .before) .before .pre .1 in (p .0, p .1, stored-on (p .2))
-
-  on-sheet-at-requires : walk-lts.Need-on-sheet-at-requires (claims t) (walk-at t) walk.Post
-  on-sheet-at-requires c κs =
-      let h = left-in (c .before) in omega (arith, h .fits .some-segment, h .points-in, h .fine .even)
 
   returns-2 : walk-lts.Need-returns-2 (claims t) (walk-at t) walk.Post
   returns-2 c f enough =
@@ -315,32 +307,20 @@ module _ (t : ℕ) where
       (y .ensures)
       (c .walk2 .result)
       (odd .ensures ∙ as-told _)
-      (c .walk2 .ensures (pred f) (omega arith)
-      ∙ (λ d. writtenWalk (inVisit (points s) (table s) (same s d)) (pred f) (right o) (odd .result) (y .result)))
+      (rw (same s) at (c .walk2 .ensures (pred f) (omega arith)))
 
 pub +walk-spec : {M : Type 1} → statement M
 +walk-spec =
     close μ-walk λ t.
-    walk-lts.spec (claims t) (walk-at t) walk.Post
-    (λ c κs. search needs) (λ c. search needs) (λ c. search needs) (λ c κs. search needs)
-    (returns t)
-    (visit-requires t)
-    (λ c. search needs)
-    (λ c κs. row-small (origin t (c .before .before) .pre .1 .0))
-    (λ c. search needs) (λ c κs. search needs) (λ c. search needs) (λ c κs. search needs) (λ c. search needs)
+    walk-lts.spec (claims t) (walk-at t) walk.Post (λ c κs. search needs) (λ c. search needs) (λ c. search needs)
+    (λ c κs. search needs) (returns t)
+    (λ c κs. let p = begun t (c .before .before) .before .pre .1 in (p .0, p .1, stored-on (p .2)))
+    (λ c. search needs) (λ c κs. row-small (origin t (c .before .before) .pre .1 .0)) (λ c. search needs)
+    (λ c κs. search needs) (λ c. search needs) (λ c κs. search needs) (λ c. search needs)
     (λ c. let small = row-small (left-in t c) in omega arith)
-    (on-sheet-at-requires t)
-    (λ c κs. row-small (left-in t (opened t (c .before))))
-    (returns-2 t)
-    (walk-requires t)
-    (λ c κs. search needs)
-    (returns-3 t)
-    (λ c. let i = inside t (halved t (c .before .before)) in omega arith)
+    (λ c κs. let h = left-in t (c .before) in omega (arith, h .fits .some-segment, h .points-in, h .fine .even))
+    (λ c κs. row-small (left-in t (opened t (c .before)))) (returns-2 t) (walk-requires t) (λ c κs. search needs)
+    (returns-3 t) (λ c. let i = inside t (halved t (c .before .before)) in omega arith)
     (λ c. let small = row-small (right-in t (halved t (c .before .before))) in omega arith)
-    (λ c. let small = row-small (right-in t (halved t (c .before .before))) in omega arith)
-    (λ c κs. search needs) (λ c κs. search needs)
-    (walk-requires-2 t)
-    (returns-4 t)
-    (returns-5 t)
-    (returns-6 t)
-    (returns-7 t)
+    (λ c. let small = row-small (right-in t (halved t (c .before .before))) in omega arith) (λ c κs. search needs)
+    (λ c κs. search needs) (walk-requires-2 t) (returns-4 t) (returns-5 t) (returns-6 t) (returns-7 t)

@@ -6,7 +6,7 @@ use borrow.Author.Tests.{not-true, not-false}
 use Rattle.integers.specs.Order.{T-true}
 use Rattle.rules.specs.declared.Line.the-variants.{LineA}
 use Rattle.rules.specs.Sheet.{segmentsOf}
-use Rattle.rules.specs.Walk.{walk, fresh}
+use Rattle.rules.specs.Walk.{fresh}
 use Rattle.rules.specs.Questions.{root, inVisit}
 use Rattle.ending.specs.Ending.{walkedIn}
 use Rattle.row.proofs.Places.{root-stands, root-ends}
@@ -47,8 +47,7 @@ returns-2 c =
     let ps = a .points .now .now in
     let f = segmentsOf ps in
     let z = point-stored (s .pre .1) in
-    c .walk .ensures f (omega arith)
-    ∙ (λ d. walk (inVisit ps (a .table .now .now) (z d)) f (root ps) false (fresh (a .allowance)))
+    rw z at (c .walk .ensures f (omega arith))
 
 pub ask-spec : {M : Type 1} → statement M
 ask-spec =

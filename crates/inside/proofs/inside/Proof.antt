@@ -1,7 +1,7 @@
 -- `inside` asks in the order of the checks, then the ring.
 -- The points and the table are lent to the walk, so that the places of the code have them as t1 and t2.
 use mathlib.Core.Path.{_≡_, refl, sym, _∙_, ap}
-use mathlib.Core.Bool.{true, false}
+use mathlib.Core.Bool.{true}
 use mathlib.Core.Option.{none}
 use native.Mathlib.Omega.{arith}
 use borrow.Author.Tests.{not-true, not-false}
@@ -10,7 +10,6 @@ use Rattle.rules.specs.declared.Line.the-variants.{LineA}
 use Rattle.rules.specs.Sheet.{onSheet}
 use Rattle.rules.specs.Reply.{refuses, firstRefusal}
 use Rattle.rules.specs.Rows.{lengthChecks}
-use Rattle.rules.specs.Questions.{sideOfRing}
 use Rattle.line.specs.declared.Checked.{Checked}
 use Rattle.line.specs.declared.Checked.the-variants.{Fine}
 use Rattle.line.specs.Checked.{checkedRefusal}
@@ -37,7 +36,7 @@ fine c = let e : c .before .before .check-lengths .result ≡ Fine = cc in lengt
 lengths : (c : tie.After-enum-told) → LengthsFine (start c .args .t1 .now) (start c .args .t2 .now)
 lengths c = lengths-fine LineA _ _ (fine c)
 
-on : (c : tie.Else1) → onSheet (c .before .before .before .before .before .args .z) ≡ true
+on : (c : tie.Else1) → let s = c .before .before .before .before .before in onSheet (s .args .z) ≡ true
 on c = sym (c .before .on-sheet .ensures) ∙ not-false _ (c .if1 .left)
 
 -- ---------------- the checks
@@ -52,9 +51,6 @@ returns-2 c =
     let o = t .before in
     let off = sym (o .on-sheet .ensures) ∙ not-true _ (t .if1 .taken) in
     c .refuses2 .ensures ∙ ap refuses (c .before .early .ensures) ∙ in-checked _ _ _ _ (fine (o .before)) off refl
-
-no-ring-requires : tie.Need-no-ring-requires
-no-ring-requires c κs = omega (arith, lengths (c .before .before) .some-points)
 
 returns-3 : tie.Need-returns-3
 returns-3 c =
@@ -75,13 +71,12 @@ returns-4 : tie.Need-returns-4
 returns-4 c =
     let e = c .before .before .before .before in
     let r = e .before in
-    c .side-of-ring .ensures
-    ∙ ap (sideOfRing _) (c .before .ask .ensures)
-    ∙ in-checked _ _ _ _ (fine (r .before .before .before)) (on (r .before)) (sym (r .no-ring .ensures) ∙ e .if2 .left)
+    rw (c .side-of-ring .ensures, c .before .ask .ensures)
+    (in-checked _ _ _ _ (fine (r .before .before .before)) (on (r .before)) (sym (r .no-ring .ensures) ∙ e .if2 .left))
 
 pub inside-spec : {M : Type 1} → statement M
 inside-spec =
     tie.close (tie.spec
-    (search needs) (search needs) (search needs) returns (search needs) (search needs) (search needs)
-    (search needs) returns-2 no-ring-requires (search needs) (search needs) returns-3 ask-requires (search needs)
-    returns-4)
+    (search needs) (search needs) (search needs) returns (search needs) (search needs) (search needs) (search needs)
+    returns-2 (λ c κs. omega (arith, lengths (c .before .before) .some-points)) (search needs) (search needs) returns-3
+    ask-requires (search needs) returns-4)

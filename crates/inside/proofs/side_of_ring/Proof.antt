@@ -34,7 +34,7 @@ returns c =
     ∙ ap (says INSIDE) (v .visits-in .ensures)
     ∙ said v (is-odd false true LineA LineA _ _ (end-read v (t .if2 .taken)))
 
-even : (c : tie.Else2) → endIn (c .before .before .before .before .args .ending) ≡ 0
+even : (c : tie.Else2) → let s = c .before .before .before .before in endIn (s .args .ending) ≡ 0
 even c = search needs
 
 returns-2 : tie.Need-returns-2
@@ -59,11 +59,8 @@ returns-4 c =
     c .says4 .ensures ∙ said v (is-spent false true LineA LineA _ _ (end-read v (t .if4 .taken)))
 
 -- what is none of these is a bad row
-bad : (c : tie.Else4) → badRow ≤ endIn (c .before .before .before .before .before .args .ending)
+bad : (c : tie.Else4) → let s = c .before .before .before .before .before in badRow ≤ endIn (s .args .ending)
 bad c = search needs
-
-refusal-requires : tie.Need-refusal-requires
-refusal-requires c κs = bad c
 
 returns-5 : tie.Need-returns-5
 returns-5 c =
@@ -75,4 +72,4 @@ pub side-of-ring-spec : {M : Type 1} → statement M
 side-of-ring-spec =
     tie.close (tie.spec
     (search needs) (search needs) (search needs) returns (search needs) returns-2 (search needs) returns-3
-    (search needs) returns-4 refusal-requires (search needs) returns-5)
+    (search needs) returns-4 (λ c κs. bad c) (search needs) returns-5)

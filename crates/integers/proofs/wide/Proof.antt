@@ -1,4 +1,4 @@
--- `whole::wide` meets its contract: what 32 bits hold, 64 hold.
+-- `integers::wide` meets its contract: what 32 bits hold, 64 hold.
 use mir.Syntax.{w64}
 use Rattle.integers.specs.Range.{nil, _&_}
 use Rattle.integers.specs.Machine.{rd, in-fits, safe, reads}

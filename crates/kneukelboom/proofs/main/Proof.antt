@@ -28,15 +28,6 @@ abbrev μ-loop : tie.MeasureT-loop
 μ-loop a₀ b₀ table-a₀ table-b₀ text₀ chunk₀ out₀ state₀ so-far₀ a b table-a table-b text chunk out state so-far =
     2 ^ 64 - so-far
 
-loop-holds : tie.Need-loop-holds Inv-loop μ-loop
-loop-holds c = record { full = refl; held = after-none (c .opened .ensures .0 zeros) (c .opened .ensures .1) }
-
-array-share-prefix-out : tie.Need-array-share-prefix-out Inv-loop μ-loop
-array-share-prefix-out c = within _ (c .pass .ensures)
-
-slice-aggregate-write-all : tie.Need-slice-aggregate-write-all Inv-loop μ-loop
-slice-aggregate-write-all c = sym (length-take-le _ _ (within _ (c .before .pass .ensures)))
-
 -- ---------------- where the code came by: what `pass` made of the answer, the answer, and the round of the loop
 abbrev passed : tie.After-enum-told Inv-loop μ-loop → tie.After-pass Inv-loop μ-loop
 passed c = let wrote = c .before .before .before in wrote .before .before
@@ -47,11 +38,11 @@ answer p =
     let b = text .before .before .before in
     let chunk = b .before .before .before in chunk .before
 
-abbrev takeText : tie.After-pass Inv-loop μ-loop → tie.In-loop Inv-loop μ-loop
-takeText p = answer p .before .before
+abbrev round : tie.After-pass Inv-loop μ-loop → tie.In-loop Inv-loop μ-loop
+round p = answer p .before .before
 
 abbrev lent : tie.After-pass Inv-loop μ-loop → Slices
-lent p = let at = takeText p .before .loop in slices (at .a) (at .b) (at .table-a) (at .table-b) (at .text)
+lent p = let at = round p .before .loop in slices (at .a) (at .b) (at .table-a) (at .table-b) (at .text)
 
 abbrev left : tie.After-pass Inv-loop μ-loop → Slices
 left p =
@@ -65,47 +56,27 @@ filled p = search needs
 -- bytes came: what is held past them, and there are more of them than before
 went-on : (p : tie.After-pass Inv-loop μ-loop) → p .pass .result .next ≡ More →
     AfterBytes (p .pass .result .bytes) (p .pass .result .state) (left p)
-    × (takeText p .before .loop .so-far < p .pass .result .bytes)
+    × (round p .before .loop .so-far < p .pass .result .bytes)
 went-on p more =
     let full = filled p in
-    let held = takeText p .before .loop .inv .held in
+    let held = round p .before .loop .inv .held in
     goes-on {l = lent p} {after = left p} _ (p .pass .ensures) more held (omega arith)
 
 loop-less : tie.Need-loop-less Inv-loop μ-loop
 loop-less c =
     let p = passed (c .before) in
-    let most = takeText p .loop-test .taken in
+    let most = round p .loop-test .taken in
     let more = went-on p (c .before .enum-told .given .1) .1 in omega arith
-
-loop-again : tie.Need-loop-again Inv-loop μ-loop
-loop-again c =
-    let p = passed (c .before) in
-    record { full = filled p; held = went-on p (c .before .enum-told .given .1) .0 }
 
 pub main-spec : {M : Type 1} → statement M
 main-spec =
-    tie.close
-    (tie.spec
-    Inv-loop
-    μ-loop
-    (λ c κs. search needs)
-    loop-holds
-    (λ c. search needs)
-    (λ c κs. search needs)
-    (λ c. search needs)
-    (λ c κs. search needs)
-    array-share-prefix-out
-    slice-aggregate-write-all
-    (λ c κs. search needs)
-    (λ c κs. search needs)
-    (λ c. search needs)
-    (λ c. search needs)
-    (λ c. search needs)
-    (λ c. search needs)
-    (λ c. search needs)
-    (λ c κs. search needs)
-    (λ c. search needs)
-    loop-less
-    loop-again
-    (λ c κs. search needs)
-    (λ c. search needs))
+    tie.close (tie.spec
+    Inv-loop μ-loop (λ c κs. search needs)
+    (λ c. record { full = refl; held = after-none (c .opened .ensures .0 zeros) (c .opened .ensures .1) })
+    (λ c. search needs) (λ c κs. search needs) (λ c. search needs) (λ c κs. search needs)
+    (λ c. within _ (c .pass .ensures)) (λ c. sym (length-take-le _ _ (within _ (c .before .pass .ensures))))
+    (λ c κs. search needs) (λ c κs. search needs) (λ c. search needs) (λ c. search needs) (λ c. search needs)
+    (λ c. search needs) (λ c. search needs) (λ c κs. search needs) (λ c. search needs) loop-less
+    (λ c. let p = passed (c .before) in
+    record { full = filled p; held = went-on p (c .before .enum-told .given .1) .0 })
+    (λ c κs. search needs) (λ c. search needs))

@@ -10,7 +10,7 @@ use Rattle.kneukelboom_c.proofs.kneukelboom_agree.Tie as tie
 returns : tie.Need-returns
 returns c =
     let fits = c .before .before .fits in
-    c .coded .ensures ∙ ap coded (simp (toZ-ofZ {w = w64} (fits .distance)) at (c .before .agree .ensures))
+    let e = simp (toZ-ofZ {w = w64} (fits .distance)) at (c .before .agree .ensures) in cc
 
 pub kneukelboom-agree-spec : {M : Type 1} → statement M
 kneukelboom-agree-spec = tie.close (tie.spec (search needs) (search needs) returns)

@@ -9,9 +9,6 @@ use Rattle.line.proofs.Smalls.{stepped}
 use Rattle.line.proofs.c_at.Statement.{statement}
 use Rattle.line.proofs.c_at.Tie as tie
 
-cross-requires : tie.Need-cross-requires
-cross-requires c κs = let h = c .before .pre in (h .1, stepped (h .0) (h .2) (c .step .ensures))
-
 returns : tie.Need-returns
 returns c =
     let u = c .before .before .args .u in
@@ -19,4 +16,6 @@ returns c =
     (c .cross .ensures ∙ ap (λ (v : Point). u .x *ℤ v .y -ℤ u .y *ℤ v .x) (c .before .step .ensures))
 
 pub c-at-spec : {M : Type 1} → statement M
-c-at-spec = tie.close (tie.spec (search needs) cross-requires returns)
+c-at-spec =
+    tie.close (tie.spec
+    (search needs) (λ c κs. let h = c .before .pre in (h .1, stepped (h .0) (h .2) (c .step .ensures))) returns)

@@ -20,12 +20,6 @@ enough c = le-ltb _ _ (c .if2 .left)
 not-more : (c : tie.Else3) → ltb most (pointsOf (c .before .before .before .args .points .now)) ≡ false
 not-more c = le-ltb _ _ (c .if3 .left)
 
-returns : tie.Need-returns
-returns c = simp (eq-eqb _ _ (c .before .if1 .taken), c .early .ensures)
-
-returns-2 : tie.Need-returns-2
-returns-2 c = simp (even (c .before .before), lt-ltb _ _ (c .before .if2 .taken), c .early2 .ensures)
-
 returns-3 : tie.Need-returns-3
 returns-3 c =
     let p = c .before .before in
@@ -44,5 +38,6 @@ returns-5 c =
 pub check-lengths-spec : {M : Type 1} → statement M
 check-lengths-spec =
     tie.close (tie.spec
-    (search needs) returns (search needs) returns-2 (search needs) returns-3 (search needs) (search needs)
-    (search needs) (search needs) (search needs) returns-4 returns-5)
+    (search needs) (λ c. simp (eq-eqb _ _ (c .before .if1 .taken), c .early .ensures)) (search needs)
+    (λ c. simp (even (c .before .before), lt-ltb _ _ (c .before .if2 .taken), c .early2 .ensures)) (search needs)
+    returns-3 (search needs) (search needs) (search needs) (search needs) (search needs) returns-4 returns-5)

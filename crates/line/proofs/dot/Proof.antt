@@ -14,19 +14,12 @@ abbrev one : tie.After-struct-told2 → tie.Start
 one c = c .before .before .before .before
 
 abbrev both : tie.After-struct-told4 → tie.Start
-both c = one (c .before .before .before .before)
-
-mul-result : tie.Need-mul-result
-mul-result c = safe-step 4 formula 0 (smalls (one c .pre .0) (one c .pre .1)) tt
-
-mul-result-2 : tie.Need-mul-result-2
-mul-result-2 c = safe-step 4 formula 1 (smalls (both c .pre .0) (both c .pre .1)) tt
-
-add-result : tie.Need-add-result
-add-result c = safe-step 4 formula 2 (smalls (both c .pre .0) (both c .pre .1)) tt
-
-returns : tie.Need-returns
-returns c = reads 4 formula (smalls (both c .pre .0) (both c .pre .1)) tt
+both c = let first = c .before .before .before .before in one first
 
 pub dot-spec : {M : Type 1} → statement M
-dot-spec = tie.close (tie.spec mul-result mul-result-2 add-result returns)
+dot-spec =
+    tie.close (tie.spec
+    (λ c. safe-step 4 formula 0 (smalls (one c .pre .0) (one c .pre .1)) tt)
+    (λ c. safe-step 4 formula 1 (smalls (both c .pre .0) (both c .pre .1)) tt)
+    (λ c. safe-step 4 formula 2 (smalls (both c .pre .0) (both c .pre .1)) tt)
+    (λ c. reads 4 formula (smalls (both c .pre .0) (both c .pre .1)) tt))

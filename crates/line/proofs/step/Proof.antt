@@ -19,13 +19,7 @@ abbrev one : tie.After-struct-told2 → tie.Start
 one c = c .before .before .before .before
 
 abbrev both : tie.After-struct-told4 → tie.Start
-both c = one (c .before .before .before .before)
-
-sub-t3 : tie.Need-sub-t3
-sub-t3 c = let p = one c .pre in safe-step 2 formula 0 (ins (p .1 .x-in) (p .0 .x-in)) tt
-
-sub-t4 : tie.Need-sub-t4
-sub-t4 c = let p = both c .pre in safe-step 2 formula 0 (ins (p .1 .y-in) (p .0 .y-in)) tt
+both c = let first = c .before .before .before .before in one first
 
 returns : tie.Need-returns
 returns c =
@@ -35,4 +29,7 @@ returns c =
     λ d. record { x = x d; y = y d }
 
 pub step-spec : {M : Type 1} → statement M
-step-spec = tie.close (tie.spec sub-t3 sub-t4 returns)
+step-spec =
+    tie.close (tie.spec
+    (λ c. let p = one c .pre in safe-step 2 formula 0 (ins (p .1 .x-in) (p .0 .x-in)) tt)
+    (λ c. let p = both c .pre in safe-step 2 formula 0 (ins (p .1 .y-in) (p .0 .y-in)) tt) returns)

@@ -9,9 +9,6 @@ use Rattle.line.proofs.Smalls.{stepped}
 use Rattle.line.proofs.t_at.Statement.{statement}
 use Rattle.line.proofs.t_at.Tie as tie
 
-dot-requires : tie.Need-dot-requires
-dot-requires c κs = let h = c .before .pre in (h .1, stepped (h .0) (h .2) (c .step .ensures))
-
 returns : tie.Need-returns
 returns c =
     let u = c .before .before .args .u in
@@ -19,4 +16,6 @@ returns c =
     (c .dot .ensures ∙ ap (λ (v : Point). u .x *ℤ v .x +ℤ u .y *ℤ v .y) (c .before .step .ensures))
 
 pub t-at-spec : {M : Type 1} → statement M
-t-at-spec = tie.close (tie.spec (search needs) dot-requires returns)
+t-at-spec =
+    tie.close (tie.spec
+    (search needs) (λ c κs. let h = c .before .pre in (h .1, stepped (h .0) (h .2) (c .step .ensures))) returns)

@@ -26,5 +26,4 @@ returns-2 c =
 
 pub at-once-spec : {M : Type 1} → statement M
 at-once-spec =
-    tie.close (tie.spec
-    (search needs) (search needs) (search needs) (search needs) returns (search needs) returns-2)
+    tie.close (tie.spec (search needs) (search needs) (search needs) (search needs) returns (search needs) returns-2)

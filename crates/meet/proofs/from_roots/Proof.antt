@@ -117,9 +117,6 @@ read-b c = record {
   row-good = T-true (sym (c .before .row-good2 .ensures) ∙ not-false _ (c .if2 .left));
 }
 
-boxes-apart-requires : tie.Need-boxes-apart-requires
-boxes-apart-requires c κs = (placed (read-a (past-a c)) .box-on, placed (read-b c) .box-on)
-
 returns-3 : tie.Need-returns-3
 returns-3 c =
     let g = c .before .before .before in
@@ -144,12 +141,14 @@ walk-requires c κs =
 
 returns-4 : tie.Need-returns-4
 returns-4 c =
-    let s = start-b (c .before .before .before .before .before .before .before .before) in
-    c .answer3 .ensures ∙ ap (yesOrNo (s .args .allowance)) (c .before .walk .ensures (levels s) (omega arith))
+    let checked = c .before .before .before .before .before .before .before .before in
+    let s = start-b checked in
+    rw (c .before .walk .ensures (levels s) (omega arith)) at (c .answer3 .ensures)
 
 pub from-roots-spec : {M : Type 1} → statement M
 from-roots-spec =
     tie.close (tie.spec
-    (search needs) (search needs) (search needs) (search needs) (search needs) (search needs) returns
-    (search needs) (search needs) (search needs) (search needs) returns-2 boxes-apart-requires (search needs)
-    returns-3 walk-requires (search needs) returns-4)
+    (search needs) (search needs) (search needs) (search needs) (search needs) (search needs) returns (search needs)
+    (search needs) (search needs) (search needs) returns-2
+    (λ c κs. (placed (read-a (past-a c)) .box-on, placed (read-b c) .box-on)) (search needs) returns-3 walk-requires
+    (search needs) returns-4)

@@ -58,19 +58,15 @@ returns-2 c =
     (none-of-a f)
     (sym (k .check-lengths2 .ensures) ∙ ap checkedRefusal (t .refusal2 .given .1))
 
-from-roots-requires : tie.Need-from-roots-requires
-from-roots-requires c κs = (fine-a c, fine-b c)
-
 returns-3 : tie.Need-returns-3
 returns-3 c =
     let f = c .before in
     let a = start-2 f .args in
-    c .from-roots .ensures
-    ∙ meet-checked (a .points-a .now) (a .table-a .now) (a .points-b .now) (a .table-b .now) (a .allowance)
-    (none-of-a (f .before .before .before)) (none-of-b f)
+    cc (meet-checked (a .points-a .now) (a .table-a .now) (a .points-b .now) (a .table-b .now) (a .allowance)
+    (none-of-a (f .before .before .before)) (none-of-b f))
 
 pub meet-spec : {M : Type 1} → statement M
 meet-spec =
     tie.close (tie.spec
-    (search needs) (search needs) (search needs) returns (search needs) (search needs) (search needs)
-    (search needs) returns-2 (search needs) from-roots-requires returns-3)
+    (search needs) (search needs) (search needs) returns (search needs) (search needs) (search needs) (search needs)
+    returns-2 (search needs) (λ c κs. (fine-a c, fine-b c)) returns-3)

@@ -4,11 +4,11 @@ use mathlib.Core.Path.{_≡_, sym, _∙_}
 use mathlib.Core.Bool.{Bool, false, cond, _&&_}
 use native.Mathlib.Omega.{arith}
 use Rattle.integers.specs.Order.{T-false}
-use Rattle.rules.specs.Questions.{leaf, startOf, endOf, apart}
+use Rattle.rules.specs.Questions.{leaf, startOf, endOf}
 use Rattle.meet_visit.specs.declared.Step.{Step}
 use Rattle.meet_visit.specs.declared.Step.the-variants.{Pass}
 use Rattle.meet_visit.specs.Steps.{tested, opened, nodesApart}
-use Rattle.meet_visit.proofs.GoodRows.{EndsRead, heading-read, ends-on, placed-at, has-split}
+use Rattle.meet_visit.proofs.GoodRows.{EndsRead, apart-read, ends-on, placed-at, has-split}
 use borrow.Author.Needs.{needs}
 use Rattle.meet_visit.proofs.compare.Statement.{statement}
 use Rattle.meet_visit.proofs.compare.Tie as tie
@@ -54,12 +54,9 @@ origin c = start (pointsRead c)
 
 told-far : (c : tie.After-apart) → c .apart .result ≡ far (origin c)
 told-far c =
-    let s = origin c .args in
-    let a = ends-a (pointsRead c) in
-    let b = ends-b (pointsRead c) in
-    let u = heading-read a (c .before .before .direction .ensures) in
-    let v = heading-read b (c .before .direction2 .ensures) in
-    c .apart .ensures ∙ (λ i. apart (s .row-a) (a .starts i) (u i) (s .row-b) (b .starts i) (v i))
+    let k = pointsRead c in
+    apart-read (origin c .args .row-a) (origin c .args .row-b) (ends-a k) (ends-b k)
+    (c .before .before .direction .ensures) (c .before .direction2 .ensures) (c .apart .ensures)
 
 apart-requires : tie.Need-apart-requires
 apart-requires c κs =
@@ -71,8 +68,7 @@ apart-requires c κs =
 -- ---------------- the tests
 returns : tie.Need-returns
 returns c =
-    let s = origin (c .before) in
-    let x = sym (told-far (c .before)) ∙ c .if1 .taken in sym (λ i. byTests s (x i) (leaves s))
+    let s = origin (c .before) in sym (λ i. byTests s ((sym (told-far (c .before)) ∙ c .if1 .taken) i) (leaves s))
 
 -- the pair is not dismissed
 abbrev kept : tie.After-both-leaves → tie.After-apart

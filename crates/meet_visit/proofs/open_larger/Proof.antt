@@ -46,5 +46,4 @@ returns-2 c =
 
 pub open-larger-spec : {M : Type 1} → statement M
 open-larger-spec =
-    tie.close
-    (tie.spec (λ c. search needs) (λ c. search needs) split-of-requires returns split-of-requires-2 returns-2)
+    tie.close (tie.spec (λ c. search needs) (λ c. search needs) split-of-requires returns split-of-requires-2 returns-2)

@@ -14,6 +14,5 @@ by-test c e = ap (λ (x : Bool). cond x Finish Pass) (sym e ∙ c .share .ensure
 
 pub test-spec : {M : Type 1} → statement M
 test-spec =
-    tie.close
-    (tie.spec (λ c κs. search needs) (λ c. by-test (c .before) (c .if1 .taken))
-    (λ c. by-test (c .before) (c .if1 .left)))
+    tie.close (tie.spec
+    (λ c κs. search needs) (λ c. by-test (c .before) (c .if1 .taken)) (λ c. by-test (c .before) (c .if1 .left)))

@@ -1,7 +1,6 @@
 -- `visit` reads both rows, which are good, and compares them.
-use mathlib.Core.Path.{sym, _∙_, ap, subst}
+use mathlib.Core.Path.{_∙_}
 use Rattle.meet_visit.specs.Pairs.{Read}
-use Rattle.meet_visit.specs.Steps.{stepVisit, SplitsInside}
 use Rattle.meet_visit.proofs.GoodRows.{read-of}
 use Rattle.meet_visit.proofs.Steps.{comparedVisit, compared-does, both-good}
 use borrow.Author.Needs.{needs}
@@ -26,11 +25,10 @@ returns c =
     let qs = a .points-b .now in
     let read = both-read (c .before) in
     let does = compared-does n (read .0) (read .1) in (
-      ap (stepVisit n) (c .compare .ensures)
-          ∙ does .0
+      rw (c .compare .ensures) (does .0)
           ∙ (λ i. comparedVisit ps (c .before .before .row-at .ensures i) qs (c .before .row-at2 .ensures i) n)
           ∙ both-good ps (a .table-a .now) qs (a .table-b .now) n (s .pre .of-a .row-good) (s .pre .of-b .row-good),
-      subst (SplitsInside n) (sym (c .compare .ensures)) (does .1),
+      rw (c .compare .ensures) (does .1),
     )
 
 pub visit-spec : {M : Type 1} → statement M

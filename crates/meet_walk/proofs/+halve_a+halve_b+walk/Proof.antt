@@ -286,8 +286,8 @@ pub +halve-a+halve-b+walk-spec : {M : Type 1} → statement M
     -- the left half is walked, and stops
     (λ c κs. search needs)
     (λ c. let w = c .before .before in
-    left-stopped (left-walkedA t w .pre .1) (w .walk .result) (w .walk .ensures) (c .before .stopped .ensures)
-    (c .if2 .taken))
+    let s = left-walkedA t w in left-stopped (s .pre .1) {counted = s .args .counted} (w .walk .result)
+    (w .walk .ensures) (c .before .stopped .ensures) (c .if2 .taken))
     -- it is over: the row of the right half likewise, and what that half comes to
     (λ c. let i = overA t (c .before) .pre .1 .inner in omega arith)
     (λ c. let k = row-small (right-half (overA t (c .before) .pre .1)) in omega arith)
@@ -316,8 +316,8 @@ pub +halve-a+halve-b+walk-spec : {M : Type 1} → statement M
     -- the left half is walked, and stops
     (λ c κs. search needs)
     (λ c. let w = c .before .before in
-    left-stopped (left-walkedB t w .pre .1) (w .walk .result) (w .walk .ensures) (c .before .stopped .ensures)
-    (c .if2 .taken))
+    let s = left-walkedB t w in left-stopped (s .pre .1) {counted = s .args .counted} (w .walk .result)
+    (w .walk .ensures) (c .before .stopped .ensures) (c .if2 .taken))
     -- it is over: the row of the right half likewise, and what that half comes to
     (λ c. let i = overB t (c .before) .pre .1 .inner in omega arith)
     (λ c. let k = row-small (right-half (overB t (c .before) .pre .1)) in omega arith)

@@ -49,7 +49,7 @@ lengths : (c : tie.After-enum-told) → LengthsFine (ps (c .before .before .befo
 lengths c = lengths-fine LineA _ _ (fine c)
 
 distance-said : (c : tie.After-distance-fits)
-    → c .distance-fits .result ≡ distanceFits (c .before .before .before .before .args .distance)
+    → let s = c .before .before .before .before in c .distance-fits .result ≡ distanceFits (s .args .distance)
 distance-said c =
     let s = c .before .before .before .before in
     c .distance-fits .ensures ∙ ap distanceFits (toZ-ofZ {w = w64} (s .fits .distance))
@@ -82,7 +82,7 @@ returns-2 c =
     ∙ decided (k .before .before .before) (fine k) off refl
 
 -- the distance passed
-fits : (c : tie.Else1) → distanceFits (c .before .before .before .before .before .args .distance) ≡ true
+fits : (c : tie.Else1) → let s = c .before .before .before .before .before in distanceFits (s .args .distance) ≡ true
 fits c = sym (distance-said (c .before)) ∙ not-false _ (c .if1 .left)
 
 returns-3 : tie.Need-returns-3
@@ -102,31 +102,31 @@ on : (c : tie.Else2) → onSheet (start c .args .z) ≡ true
 on c = sym (c .before .on-sheet .ensures) ∙ not-false _ (c .if2 .left)
 
 -- ---------------- where no check refused, the reply is that of the walk
-abbrev walks : tie.Start → ℤ → Walked Nothing
-walks s d = nearWalk LineA (ps s) (rows s) (s .args .z) d (fresh (s .args .allowance))
+abbrev walks : tie.Start → Walked Nothing
+walks s = nearWalk LineA (ps s) (rows s) (s .args .z) (s .args .distance) (fresh (s .args .allowance))
 
 answered : (c : tie.Else2) {w : Walked Nothing}
-    → w ≡ walks (start c) (start c .args .distance) → yesOrNo (start c .args .allowance) w ≡ reply (start c)
+    → w ≡ walks (start c) → yesOrNo (start c .args .allowance) w ≡ reply (start c)
 answered c e =
+    let told = c .before .before .before .before in
     ap (yesOrNo (start c .args .allowance)) e
-    ∙ decided (start c) (fine (c .before .before .before .before)) (fits (c .before .before)) (on c)
+    ∙ decided (start c) (fine told) (fits (c .before .before)) (on c)
 
 ask-any-requires : tie.Need-ask-any-requires
 ask-any-requires c κs =
     let k = c .before .before in
     let d = distance-abs (start k .args .distance) (T-true (fits (k .before .before))) in
-    (lengths (k .before .before .before .before), on-sheet _ (T-true (on k)), stored-abs d tt)
+    let told = k .before .before .before .before in
+    (lengths told, on-sheet _ (T-true (on k)), stored-abs d tt)
 
 returns-4 : tie.Need-returns-4
 returns-4 c =
     let k = c .before .before .before .before in
-    let s = start k in
-    let d = toZ-ofZ {w = w64} (s .fits .distance) in
-    c .answer .ensures ∙ answered k (c .before .ask-any .ensures LineA LineB ∙ ap (walks s) d)
+    let d = toZ-ofZ {w = w64} (start k .fits .distance) in
+    c .answer .ensures ∙ answered k (rw d at (c .before .ask-any .ensures LineA LineB))
 
 pub near-spec : {M : Type 1} → statement M
 near-spec =
     tie.close (tie.spec
-    (search needs) (search needs) (search needs) returns (search needs) (search needs) (search needs)
-    (search needs) returns-2 (search needs) (search needs) (search needs) returns-3 ask-any-requires
-    (search needs) returns-4)
+    (search needs) (search needs) (search needs) returns (search needs) (search needs) (search needs) (search needs)
+    returns-2 (search needs) (search needs) (search needs) returns-3 ask-any-requires (search needs) returns-4)

@@ -1,12 +1,13 @@
 -- `inner_step` makes the tests of the definition in its order.
 use mathlib.Core.Path.{_≡_, sym, _∙_, ap, subst}
 use mathlib.Core.Bool.{Bool, true}
-use Prim.Native.Nat.{ℕ, _<_}
+use Prim.Native.Nat.{ℕ}
 use borrow.Author.Tests.{not-true, not-false}
 use lib.IntN.{ℤ, _*ℤ_}
 use Rattle.rules.specs.Plane.{direction}
 use Rattle.rules.specs.Questions.{splitIn, farFrom}
 use Rattle.line.proofs.Stored.{stored}
+use Rattle.visits.specs.Nodes.{Inner}
 use Rattle.row.specs.Parts.{splitFits}
 use Rattle.row.proofs.OneVisit.{split-between, split-above}
 use Rattle.near_visit.specs.Steps.{innerBy, innerStep}
@@ -38,11 +39,8 @@ decided : (c : tie.After-far-from) {far : Bool} → c .far-from .result ≡ far
     → innerBy (splitIn (a .r)) true far ≡ innerStep (a .r) (a .first) (a .last) (a .a) (a .b) (a .z) D
 decided c far D e =
     let k = c .before in
-    let f = sym (c .far-from .ensures D (stored (start k .pre .1 .4) tt ∙ e)) ∙ far in
-    sym (λ i. innerBy (splitIn (start k .args .r)) (was-good k i) (f i))
-
-returns-2 : tie.Need-returns-2
-returns-2 c = (decided (c .before) (c .if2 .taken), tt)
+    let said = c .far-from .ensures D (stored (start k .pre .1 .4) tt ∙ e) in
+    rw (was-good k, ← said, far)
 
 split-of-requires : tie.Need-split-of-requires
 split-of-requires c κs =
@@ -53,13 +51,14 @@ returns-3 : tie.Need-returns-3
 returns-3 c =
     let k = c .before .before .before in
     let a = start k .args in
-    let s = c .split-of .ensures in
-    let between = split-between (a .r) (a .first) (a .last) (was-good k) in (
+    let s = c .split-of .ensures in (
       λ D e. ap Halve s ∙ decided (c .before .before) (c .before .if2 .left) D e,
-      subst (λ (i : ℕ). (a .first < i) × (i < a .last)) (sym s) between,
+      subst (λ (i : ℕ). Inner (a .first) i (a .last)) (sym s)
+          (split-between (a .r) (a .first) (a .last) (was-good k)),
     )
 
 pub inner-step-spec : {M : Type 1} → statement M
 inner-step-spec =
-    tie.close
-    (tie.spec (λ c κs. search needs) returns (λ c κs. search needs) returns-2 split-of-requires returns-3)
+    tie.close (tie.spec
+    (λ c κs. search needs) returns (λ c κs. search needs) (λ c. (decided (c .before) (c .if2 .taken), tt))
+    split-of-requires returns-3)

@@ -74,21 +74,9 @@ tested c n D e =
     let w = sym (c .within .ensures D (stored (start k .pre .4) tt ∙ e)) ∙ n in
     sym (λ i. leafBy (was-good k i) (f i) (w i))
 
-returns-3 : tie.Need-returns-3
-returns-3 c = (tested (c .before) (c .if3 .taken), λ first last. tt)
-
-returns-4 : tie.Need-returns-4
-returns-4 c = (tested (c .before) (c .if3 .left), λ first last. tt)
-
 pub leaf-step-spec : {M : Type 1} → statement M
 leaf-step-spec =
-    tie.close
-    (tie.spec
-    (λ c κs. search needs)
-    returns
-    (λ c κs. search needs)
-    far-along-requires
-    returns-2
-    (λ c κs. search needs)
-    returns-3
-    returns-4)
+    tie.close (tie.spec
+    (λ c κs. search needs) returns (λ c κs. search needs) far-along-requires returns-2 (λ c κs. search needs)
+    (λ c. (tested (c .before) (c .if3 .taken), λ first last. tt))
+    (λ c. (tested (c .before) (c .if3 .left), λ first last. tt)))

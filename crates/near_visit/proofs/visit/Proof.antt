@@ -76,15 +76,6 @@ returns-3 c =
 
 pub visit-spec : {M : Type 1} → statement M
 visit-spec =
-    tie.close
-    (tie.spec
-    (λ c κs. search needs)
-    (λ c κs. search needs)
-    (λ c κs. search needs)
-    (λ c κs. search needs)
-    returns
-    (λ c. search needs)
-    (λ c κs. asked (c .before))
-    returns-2
-    inner-step-requires
-    returns-3)
+    tie.close (tie.spec
+    (λ c κs. search needs) (λ c κs. search needs) (λ c κs. search needs) (λ c κs. search needs) returns
+    (λ c. search needs) (λ c κs. asked (c .before)) returns-2 inner-step-requires returns-3)

@@ -1,6 +1,6 @@
 -- `walk` takes one level of the written walk. The number of segments in the range falls. A split off the sheet is
 -- refused in place of the left half, whose row it makes bad.
-use mathlib.Core.Path.{_≡_, refl, sym, _∙_, ap, subst}
+use mathlib.Core.Path.{_≡_, refl, sym, _∙_, subst}
 use mathlib.Core.Bool.{false}
 use mathlib.Core.List.{List}
 use Prim.Native.Nat.{ℕ, pred, _-_, _<_, _+_, _≤_}
@@ -15,11 +15,12 @@ use Rattle.rules.specs.declared.Point.{Point}
 use Rattle.rules.specs.declared.Tally.{Tally}
 use Rattle.rules.specs.declared.Next.the-variants.{Left, Spent}
 use Rattle.rules.specs.Sheet.{point, onSheet}
-use Rattle.rules.specs.Walk.{next, Visit, halve, walk as writtenWalk}
+use Rattle.rules.specs.Walk.{next, Visit, halve}
 use Rattle.rules.specs.Questions.{Nothing, leftOf, rightOf, nearVisit}
 use Rattle.line.proofs.Stored.{stored, stored-abs, readBack, point-stored, stored-on}
 use Rattle.ending.proofs.OneLevel.{Level, uncounted, says, below, none-left, yes-here, over-here, bad-here}
 use Rattle.ending.proofs.OneLevel.{left-stops, bad-left, right-goes}
+use Rattle.visits.specs.Nodes.{Inner}
 use Rattle.row.specs.Stands.{Stands, nodeAt}
 use Rattle.row.proofs.Parts.{end-off}
 use Rattle.row.proofs.Places.{row-small, left-stands, right-stands, left-ends, right-ends}
@@ -154,9 +155,7 @@ module _ (t : ℕ) where
       → stepVisit l (node (origin c)) v ≡ does (origin c) l D (node (origin c))
   did c l D squared e =
       let s = origin c in
-      ap (stepVisit l (node s)) (sym e)
-      ∙ c .visit2 .ensures .does l D (stored (s .pre .1 .3) tt ∙ squared)
-      ∙ (λ i. nearVisit l (points s) (table s) (same s i) D (node s))
+      rw (e, same s) at (c .visit2 .ensures .does l D (stored (s .pre .1 .3) tt ∙ squared))
 
   -- ---------------- the node is halved at an inner point, so both halves stand where it does
   abbrev split : Opened → ℕ
@@ -172,16 +171,16 @@ module _ (t : ℕ) where
       → halve (left c) (right c) ≡ does (start c) l D (node (start c))
   halves c l D squared = did (seen c) l D squared (c .before .split .given .1)
 
-  inside : (c : Opened) → (start c .args .first < split c) × (split c < start c .args .last)
+  inside : (c : Opened) → Inner (start c .args .first) (split c) (start c .args .last)
   inside c =
       let a = start c .args in
       subst (SplitsInside (a .first) (a .last)) (c .before .split .given .1) (seen c .visit2 .ensures .inside)
 
   left-in : (c : Opened) → Stands (points (start c)) (table (start c)) (left c)
-  left-in c = let i = inside c in left-stands (start c .pre .1 .0) (i .0) (i .1)
+  left-in c = left-stands (start c .pre .1 .0) (inside c)
 
   right-in : (c : Opened) → Stands (points (start c)) (table (start c)) (right c)
-  right-in c = let i = inside c in right-stands (start c .pre .1 .0) (i .0) (i .1)
+  right-in c = right-stands (start c .pre .1 .0) (inside c)
 
   split-on : (c : walk-lts.Else1 (claims t) (walk-at t) walk.Post)
       → T (onSheet (point (points (start (opened (c .before)))) (split (opened (c .before)))))
@@ -196,8 +195,7 @@ module _ (t : ℕ) where
       let o = halved c in
       let s = start o in
       let i = inside o in
-      c .walk .ensures l m (pred f) D (stored (s .pre .1 .3) tt ∙ squared) (omega arith)
-      ∙ (λ d. writtenWalk (nearVisit l (points s) (table s) (same s d) D) (pred f) (left o) tt (counted (seen o)))
+      rw (same s) at (c .walk .ensures l m (pred f) D (stored (s .pre .1 .3) tt ∙ squared) (omega arith))
 
   -- ---------------- the needs that are not trivial, in the order of the code
   returns : walk-lts.Need-returns (claims t) (walk-at t) walk.Post
@@ -205,14 +203,6 @@ module _ (t : ℕ) where
       let k = c .before .before .before in
       let none : next (k .before .args .tally) ≡ Spent = cc in
       none-left (level (k .before) l m f D enough) none (c .pack .ensures)
-
-  visit-requires : walk-lts.Need-visit-requires-2 (claims t) (walk-at t) walk.Post
-  visit-requires c κs =
-      let p = begun (c .before .before) .before .pre .1 in (p .0, p .1, stored-on (p .2), stored-abs (p .3) tt)
-
-  on-sheet-at-requires : walk-lts.Need-on-sheet-at-requires (claims t) (walk-at t) walk.Post
-  on-sheet-at-requires c κs =
-      let h = left-in (c .before) in omega (arith, h .fits .some-segment, h .points-in, h .fine .even)
 
   returns-2 : walk-lts.Need-returns-2 (claims t) (walk-at t) walk.Post
   returns-2 c l m f D squared enough =
@@ -275,39 +265,27 @@ module _ (t : ℕ) where
       let o = halved w in
       let s = start o in
       let i = inside o in
-      let y = c .before .tally-in in
       right-goes (level s l m f D enough) (made (seen o)) (halves o l D squared) (w .walk .result)
       (left-comes w l m f D squared enough)
       (sym (k .before .stopped .ensures) ∙ k .if2 .left)
-      (y .ensures)
+      (c .before .tally-in .ensures)
       (c .walk2 .result)
       refl
-      (c .walk2 .ensures l m (pred f) D (stored (s .pre .1 .3) tt ∙ squared) (omega arith)
-      ∙ (λ d. writtenWalk (nearVisit l (points s) (table s) (same s d) D) (pred f) (right o) tt (y .result)))
+      (rw (same s) at (c .walk2 .ensures l m (pred f) D (stored (s .pre .1 .3) tt ∙ squared) (omega arith)))
 
 pub +walk-spec : {M : Type 1} → statement M
 +walk-spec =
     close μ-walk λ t.
-    walk-lts.spec (claims t) (walk-at t) walk.Post
-    (λ c κs. search needs) (λ c. search needs) (λ c. search needs) (λ c κs. search needs)
-    (returns t)
-    (visit-requires t)
-    (λ c. search needs)
-    (λ c κs. row-small (origin t (c .before .before) .pre .1 .0))
-    (λ c. search needs) (λ c κs. search needs) (λ c. search needs) (λ c κs. search needs) (λ c. search needs)
+    walk-lts.spec (claims t) (walk-at t) walk.Post (λ c κs. search needs) (λ c. search needs) (λ c. search needs)
+    (λ c κs. search needs) (returns t)
+    (λ c κs. let p = begun t (c .before .before) .before .pre .1 in
+    (p .0, p .1, stored-on (p .2), stored-abs (p .3) tt))
+    (λ c. search needs) (λ c κs. row-small (origin t (c .before .before) .pre .1 .0)) (λ c. search needs)
+    (λ c κs. search needs) (λ c. search needs) (λ c κs. search needs) (λ c. search needs)
     (λ c. let small = row-small (left-in t c) in omega arith)
-    (on-sheet-at-requires t)
-    (λ c κs. row-small (left-in t (opened t (c .before))))
-    (returns-2 t)
-    (walk-requires t)
-    (λ c κs. search needs)
-    (returns-3 t)
-    (λ c. let i = inside t (halved t (c .before .before)) in omega arith)
+    (λ c κs. let h = left-in t (c .before) in omega (arith, h .fits .some-segment, h .points-in, h .fine .even))
+    (λ c κs. row-small (left-in t (opened t (c .before)))) (returns-2 t) (walk-requires t) (λ c κs. search needs)
+    (returns-3 t) (λ c. let i = inside t (halved t (c .before .before)) in omega arith)
     (λ c. let small = row-small (right-in t (halved t (c .before .before))) in omega arith)
-    (λ c. let small = row-small (right-in t (halved t (c .before .before))) in omega arith)
-    (λ c κs. search needs)
-    (walk-requires-2 t)
-    (returns-4 t)
-    (returns-5 t)
-    (returns-6 t)
-    (returns-7 t)
+    (λ c. let small = row-small (right-in t (halved t (c .before .before))) in omega arith) (λ c κs. search needs)
+    (walk-requires-2 t) (returns-4 t) (returns-5 t) (returns-6 t) (returns-7 t)

@@ -5,17 +5,12 @@ use lib.IntN.{_*ℤ_}
 use mir.Syntax.{w64}
 use Rattle.integers.specs.Range.{fits-of}
 use Rattle.rules.specs.Sheet.{segmentsOf}
-use Rattle.rules.specs.Walk.{walk}
-use Rattle.rules.specs.Questions.{root, nearVisit}
 use Rattle.line.proofs.Stored.{stored, stored-abs, point-stored, stored-on}
 use Rattle.row.proofs.Places.{root-stands, root-ends}
 use Rattle.reach.proofs.Sizes.{square-abs}
 use borrow.Author.Needs.{needs}
 use Rattle.near_walk.proofs.ask.Statement.{statement}
 use Rattle.near_walk.proofs.ask.Tie as tie
-
-mul-walk : tie.Need-mul-walk
-mul-walk c = fits-of w64 (square-abs (stored-abs (c .pre .0 .2) tt)) tt
 
 walk-requires : tie.Need-walk-requires
 walk-requires c κs =
@@ -27,13 +22,12 @@ returns : tie.Need-returns
 returns c l m =
     let s = c .before .before .before in
     let a = s .args in
-    let ps = a .points .now .now in
-    let f = segmentsOf ps in
-    let z = point-stored (s .pre .1) in
+    let f = segmentsOf (a .points .now .now) in
     let d = stored (s .pre .0 .2) tt in
     let reach = stored (square-abs (stored-abs (s .pre .0 .2) tt)) tt ∙ (λ i. d i *ℤ d i) in
-    c .walk .ensures l m f (a .d) reach (omega arith)
-    ∙ (λ j. walk (nearVisit l ps (a .table .now .now) (z j) (a .d)) f (root ps) tt (a .tally))
+    rw (point-stored (s .pre .1)) at (c .walk .ensures l m f (a .d) reach (omega arith))
 
 pub ask-spec : {M : Type 1} → statement M
-ask-spec = tie.close (tie.spec (λ c. search needs) mul-walk walk-requires returns)
+ask-spec =
+    tie.close (tie.spec
+    (λ c. search needs) (λ c. fits-of w64 (square-abs (stored-abs (c .pre .0 .2) tt)) tt) walk-requires returns)

@@ -31,8 +31,7 @@ returns-2 c l m =
     let k = c .before .before in
     let s = k .before .before in
     let a = s .args in
-    c .ask .ensures l m
-    ∙ ap (λ (d : ℤ). nearWalk l (a .points .now .now) (a .table .now .now) (a .z) d (a .tally)) (stored (s .pre .2) tt)
+    rw (stored (s .pre .2) tt) at (c .ask .ensures l m)
 
 pub ask-any-spec : {M : Type 1} → statement M
 ask-any-spec = tie.close (tie.spec (λ c κs. search needs) (λ c κs. search needs) returns ask-requires returns-2)

@@ -45,7 +45,8 @@ module _ (t : ℕ) where
   returns-2 : lts.Need-returns-2 callees here put-decimal.Post
   returns-2 c =
       let s = c .before .before .before .before .before .before .before .before .before .before in
-      let tenth = c .before .before .before .before .before .before .put-decimal in
+      let above = c .before .before .before .before .before .before in
+      let tenth = above .put-decimal in
       put-same (sym (decimal-more (s .args .n) (omega arith) (s .fits .n .fits)))
       (put-behind (s .args .out .now) (s .args .at) (omega arith) (decimal (s .args .n / 10)) (tenth .ensures)
       (c .before .before .put-byte2 .ensures))

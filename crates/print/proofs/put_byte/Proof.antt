@@ -4,8 +4,5 @@ use borrow.Author.Needs.{needs}
 use Rattle.print.proofs.put_byte.Statement.{statement}
 use Rattle.print.proofs.put_byte.Tie as tie
 
-returns : tie.Need-returns
-returns c = put-one (c .args .out .now) (c .args .at) (c .args .byte) (c .pre)
-
 pub put-byte-spec : {M : Type 1} → statement M
-put-byte-spec = tie.close (tie.spec (search needs) (search needs) (search needs) returns)
+put-byte-spec = tie.close (tie.spec (search needs) (search needs) (search needs) (λ c. put-one _ _ _ (c .pre)))

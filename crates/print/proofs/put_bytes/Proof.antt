@@ -15,9 +15,6 @@ Inv-loop out₀ at bytes i₀ out i = (out ≡ paste out₀ at bytes i) × (i �
 abbrev μ-loop : tie.MeasureT-loop
 μ-loop out₀ at bytes i₀ out i = length bytes - i
 
-loop-holds : tie.Need-loop-holds Inv-loop μ-loop
-loop-holds c = (paste-zero (c .args .out .now) (c .args .at) (c .args .bytes .now), omega arith, refl)
-
 loop-again : tie.Need-loop-again Inv-loop μ-loop
 loop-again c =
     let s = c .before .before .before in
@@ -32,17 +29,10 @@ loop-again c =
       length-set (loop .out) (at + loop .i) (getD bytes (loop .i) 0) ∙ loop .inv .2,
     )
 
-same-length : tie.Need-same-length Inv-loop μ-loop
-same-length c = c .before .loop .inv .2
-
-returns : tie.Need-returns Inv-loop μ-loop
-returns c =
-    let s = c .before .before in
-    let inv = c .before .loop .inv in
-    put-all (s .args .out .now) (s .args .at) (s .args .bytes .now) (inv .0) (omega arith)
-
 pub put-bytes-spec : {M : Type 1} → statement M
 put-bytes-spec =
     tie.close (tie.spec
-    Inv-loop μ-loop loop-holds (λ c. omega arith) (λ c. omega arith) (λ c. omega arith) (λ c. omega arith)
-    (λ c. omega arith) loop-again (λ c. omega arith) same-length returns)
+    Inv-loop μ-loop (λ c. (paste-zero _ (c .args .at) (c .args .bytes .now), omega arith, refl))
+    (λ c. omega arith) (λ c. omega arith) (λ c. omega arith) (λ c. omega arith) (λ c. omega arith) loop-again
+    (λ c. omega arith) (λ c. c .before .loop .inv .2)
+    (λ c. put-all _ _ _ (c .before .loop .inv .0) (omega arith)))

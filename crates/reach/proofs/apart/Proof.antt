@@ -38,9 +38,7 @@ returns c =
     let ex = stored (u .x-in) tt ∙ ap (λ (p : Point). p .x) e in
     let ey = stored (u .y-in) tt ∙ ap (λ (p : Point). p .y) e in
     let ed = stored (s .pre .2) tt in
-    c .farther .ensures
-    ∙ (λ i. ltZ (ed i *ℤ pos 1) (ex i *ℤ ex i +ℤ ey i *ℤ ey i))
-    ∙ ap (λ (m : ℤ). ltZ m (size² (step (s .args .a) (s .args .b)))) (one-r (s .args .reach))
+    rw (ed, ex, ey, one-r) at (c .farther .ensures)
 
 pub apart-spec : {M : Type 1} → statement M
 apart-spec = tie.close (tie.spec (search needs) farther-requires returns)

@@ -1,7 +1,7 @@
 -- `far_along` takes both shortfalls, which are at most |c| and |t| of z, and compares their squares.
 use mathlib.Core.Path.{_≡_, sym, _∙_, subst}
-use lib.IntN.{ℤ, pos, _+ℤ_, _*ℤ_}
-use lib.Signed.{ltZ, _≤ℤ_}
+use lib.IntN.{ℤ, pos}
+use lib.Signed.{_≤ℤ_}
 use mir.Syntax.{w64}
 use mir.Val.{SFits, toZ, ofZ}
 use mir.Facts.{toZ-ofZ}
@@ -89,7 +89,7 @@ returns c D e =
     let b = t-short k in
     let v = result w64 (c .before .size2 .ok) (c .before .size2 .ensures) in
     let d = stored (start (first k) .pre .4) tt ∙ e in
-    c .farther .ensures ∙ (λ i. ltZ (d i *ℤ v i) (a i *ℤ a i +ℤ b i *ℤ b i))
+    rw (d, v, a, b) at (c .farther .ensures)
 
 pub far-along-spec : {M : Type 1} → statement M
 far-along-spec =

@@ -34,5 +34,4 @@ returns-2 c D e =
 
 pub far-from-spec : {M : Type 1} → statement M
 far-from-spec =
-    tie.close (tie.spec
-    (search needs) (λ c κs. search needs) returns (search needs) far-along-requires-2 returns-2)
+    tie.close (tie.spec (search needs) (λ c κs. search needs) returns (search needs) far-along-requires-2 returns-2)

@@ -28,20 +28,8 @@ scaled g h reach v = rd w64 (reach ⊗ v)
 abbrev gap : MExpr → MExpr → MExpr → MExpr → MExpr
 gap g h reach v = rd w64 (rd w64 (g ⊗ g) ⊕ rd w64 (h ⊗ h))
 
-mul-result : tie.Need-mul-result
-mul-result c = safe-step 4 scaled 0 (ins c) tt
-
-mul-result-2 : tie.Need-mul-result-2
-mul-result-2 c = safe-step 4 gap 0 (ins c) tt
-
-mul-result-3 : tie.Need-mul-result-3
-mul-result-3 c = safe-step 4 gap 1 (ins c) tt
-
-add-result : tie.Need-add-result
-add-result c = safe-step 4 gap 2 (ins c) tt
-
-returns : tie.Need-returns
-returns c = λ d. ltZ (reads 4 scaled (ins c) tt d) (reads 4 gap (ins c) tt d)
-
 pub farther-spec : {M : Type 1} → statement M
-farther-spec = tie.close (tie.spec mul-result mul-result-2 mul-result-3 add-result returns)
+farther-spec =
+    tie.close (tie.spec
+    (λ c. safe-step 4 scaled 0 (ins c) tt) (λ c. safe-step 4 gap 0 (ins c) tt) (λ c. safe-step 4 gap 1 (ins c) tt)
+    (λ c. safe-step 4 gap 2 (ins c) tt) (λ c. λ d. ltZ (reads 4 scaled (ins c) tt d) (reads 4 gap (ins c) tt d)))

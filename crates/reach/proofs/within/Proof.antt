@@ -1,7 +1,7 @@
 -- `within` asks the three cases in the order of the definition, each by `farther`.
 use mathlib.Core.Path.{_≡_, sym, _∙_, ap}
 use mathlib.Core.Bool.{false, not}
-use lib.IntN.{ℤ, pos, _+ℤ_, _*ℤ_}
+use lib.IntN.{ℤ, pos}
 use lib.Signed.{leZ, ltZ}
 use mir.Syntax.{w64}
 use mir.Val.{toZ, ofZ}
@@ -50,12 +50,6 @@ size-read c =
 past-start : (c : tie.Else1) → leZ (t (start (c .before))) (pos 0) ≡ false
 past-start c = sym (λ i. leZ (t-read (c .before) i) (pos 0)) ∙ c .if1 .left
 
-t-at-requires : tie.Need-t-at-requires
-t-at-requires c κs = (c .before .pre .1, step-is-small c, c .before .pre .0)
-
-apart-requires : tie.Need-apart-requires
-apart-requires c κs = let p = start (c .before) .pre in (p .1, p .0, stored-abs (p .3) tt)
-
 returns : tie.Need-returns
 returns c D e =
     let p = c .before .before in
@@ -65,12 +59,6 @@ returns c D e =
     ap not (c .apart .ensures ∙ (λ i. ltZ (d i) (size² (step (s .args .a) (s .args .z)))))
     ∙ within-start (s .args .z) (s .args .a) (s .args .b) D early
 
-size2-requires : tie.Need-size2-requires
-size2-requires c κs = step-is-small (c .before .before)
-
-apart-requires-2 : tie.Need-apart-requires-2
-apart-requires-2 c κs = let p = start (sized (c .before)) .pre in (search needs, search needs, stored-abs (p .3) tt)
-
 returns-2 : tie.Need-returns-2
 returns-2 c D e =
     let p = c .before .before in
@@ -79,9 +67,6 @@ returns-2 c D e =
     let far = sym (λ i. leZ (size-read p i) (t-read (sized p) i)) ∙ c .before .if2 .taken in
     ap not (c .apart2 .ensures ∙ (λ i. ltZ (d i) (size² (step (s .args .b) (s .args .z)))))
     ∙ within-end (s .args .z) (s .args .a) (s .args .b) D (past-start (p .before)) far
-
-c-at-requires : tie.Need-c-at-requires
-c-at-requires c κs = let p = sized (c .before) in (start p .pre .1, step-is-small (p .before), start p .pre .0)
 
 farther-requires : tie.Need-farther-requires
 farther-requires c κs =
@@ -103,11 +88,15 @@ returns-3 c D e =
     let said = ap (λ (u : Point). cAt (s .args .a) u (s .args .z)) (sized p .before .step .ensures) in
     let k = result w64 (c .before .c-at .ok) (c .before .c-at .ensures ∙ said) in
     let near = sym (λ i. leZ (v i) (t-read (sized p) i)) ∙ c .before .before .if2 .left in
-    ap not (c .farther .ensures ∙ (λ i. ltZ (d i *ℤ v i) (k i *ℤ k i +ℤ pos 0)))
+    ap not (rw (d, v, k) at (c .farther .ensures))
     ∙ within-along (s .args .z) (s .args .a) (s .args .b) D (past-start (p .before)) near
 
 pub within-spec : {M : Type 1} → statement M
 within-spec =
     tie.close (tie.spec
-    (search needs) t-at-requires apart-requires returns size2-requires apart-requires-2 returns-2 c-at-requires
+    (search needs) (λ c κs. (c .before .pre .1, step-is-small c, c .before .pre .0))
+    (λ c κs. let p = start (c .before) .pre in (p .1, p .0, stored-abs (p .3) tt)) returns
+    (λ c κs. step-is-small (c .before .before))
+    (λ c κs. let p = start (sized (c .before)) .pre in (search needs, search needs, stored-abs (p .3) tt)) returns-2
+    (λ c κs. let p = sized (c .before) in (start p .pre .1, step-is-small (p .before), start p .pre .0))
     farther-requires returns-3)

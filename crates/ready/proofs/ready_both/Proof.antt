@@ -1,6 +1,6 @@
 -- `ready_both`: what A tells is told; where A is ready, what comes of B decides.
 use mathlib.Core.Path.{_≡_, sym, ap, _∙_}
-use mathlib.Core.Bool.{Bool, _&&_, cond}
+use mathlib.Core.Bool.{Bool, true, false, _&&_, cond}
 use mathlib.Core.List.{List}
 use lib.IntN.{ℤ}
 use Rattle.rules.specs.declared.Line.the-variants.{LineB}
@@ -10,7 +10,6 @@ use Rattle.desk.specs.Desk.{Store, withTable}
 use Rattle.desk.specs.Kept.{storeIn}
 use Rattle.ready.specs.Readied.{goesOn}
 use Rattle.ready.specs.Left.{isReady, tableAfter}
-use Rattle.ready.proofs.Goes.{goes}
 use borrow.Author.Needs.{needs}
 use Rattle.ready.proofs.ready_both.Statement.{statement}
 use Rattle.ready.proofs.ready_both.Tie as tie
@@ -25,12 +24,6 @@ module _ (s : tie.Start) where
   -- what is asked of A: to go on with B
   abbrev onwards : (List ℤ → List ℤ → Reply) → List ℤ → Reply
   onwards go t = withTable LineB storeB (s .args .place) (go t)
-
-  abbrev asked-b : (List ℤ → List ℤ → Reply) → Reply
-  asked-b go = onwards go (tableOf (storeA .points))
-
-  abbrev asked : (List ℤ → List ℤ → Reply) → Reply
-  asked go = go (tableOf (storeA .points)) (tableOf (storeB .points))
 
   -- whether both stand ready, and what is left in B's table, where it is known of A
   module _ {k : Bool} (e : isReady storeA (s .args .table-a .now) ≡ k) where
@@ -51,9 +44,9 @@ returns c =
     let s = c .before .before .before .before .before in
     let r = c .before .before .before .ready in
     let e = c .enum-told2 .given .1 in
-    let refused = sym (r .ensures .goes) ∙ ap goesOn e in
+    let refused : isReady (storeA s) (s .args .table-a .now) ≡ false = rw (← r .ensures .goes, e) in
     record {
-      reply = λ go. goes (asked s go) (sym e) (goes (asked-b s go) e (r .ensures .reply (onwards s go)));
+      reply = λ go. rw e (rw e at (r .ensures .reply (onwards s go)));
       goes = ap goesOn e ∙ sym (then-b s refused);
       first = r .ensures .left;
       second = left-b s refused;
@@ -62,13 +55,14 @@ returns c =
 returns-2 : tie.Need-returns-2
 returns-2 c =
     let s = c .before .before .before .before .before .before .before .before in
-    let r = c .before .before .before .before .before .before .ready in
+    let first = c .before .before .before .before .before .before in
+    let r = first .ready in
     let e = c .before .before .before .enum-told .given .1 in
-    let ready = sym (r .ensures .goes) ∙ ap goesOn e in
+    let ready : isReady (storeA s) (s .args .table-a .now) ≡ true = rw (← r .ensures .goes, e) in
     let q = c .before .ready2 in
     record {
-      reply = λ go. q .ensures .reply (go (tableOf (storeA s .points)))
-          ∙ goes (asked-b s go) e (r .ensures .reply (onwards s go));
+      reply = λ go. rw (rw e at (r .ensures .reply (onwards s go)))
+          at (q .ensures .reply (go (tableOf (storeA s .points))));
       goes = q .ensures .goes ∙ sym (then-b s ready);
       first = r .ensures .left;
       second = q .ensures .left ∙ left-b s ready;

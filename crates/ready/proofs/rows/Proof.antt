@@ -4,11 +4,8 @@ use borrow.Author.Needs.{needs}
 use Rattle.ready.proofs.rows.Statement.{statement}
 use Rattle.ready.proofs.rows.Tie as tie
 
-returns : tie.Need-returns
-returns c = rw sub-zero (c .before .pre .front)
-
 pub rows-spec : {M : Type 1} → statement M
 rows-spec =
     tie.close (tie.spec
     (search needs) (search needs) (search needs) (search needs) (search needs) (search needs) (search needs)
-    returns)
+    (λ c. rw sub-zero (c .before .pre .front)))

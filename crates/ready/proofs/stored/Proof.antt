@@ -4,8 +4,5 @@ use borrow.Author.Needs.{needs}
 use Rattle.ready.proofs.stored.Statement.{statement}
 use Rattle.ready.proofs.stored.Tie as tie
 
-returns : tie.Need-returns
-returns c = rw sub-zero
-
 pub stored-spec : {M : Type 1} → statement M
-stored-spec = tie.close (tie.spec (search needs) (search needs) (search needs) (search needs) returns)
+stored-spec = tie.close (tie.spec (search needs) (search needs) (search needs) (search needs) (λ c. rw sub-zero))

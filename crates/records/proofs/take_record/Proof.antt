@@ -6,7 +6,7 @@ use mir.Val.{SFits}
 use mir.Facts.{toZ-ofZ}
 use Rattle.words.specs.declared.Record.{Record}
 use Rattle.words.specs.declared.Record.the-variants.{Pt}
-use Rattle.desk.specs.Desk.{Desk, saying}
+use Rattle.desk.specs.Desk.{Desk, saying, takeRecord}
 use Rattle.store.specs.declared.Outcome.{Outcome}
 use Rattle.store.specs.States.{quietly}
 use Rattle.records.specs.Left.{Both, both, Numbers, numbers}
@@ -58,7 +58,7 @@ returns-2 c =
     let known = done .before .before .before in
     let s = known .before .before .before in
     came s (known .before .record2 .given .1 ∙ sym (λ i. Pt (toZ-ofZ (point-x known) i) (toZ-ofZ (point-y known) i)))
-    (done .take-point .ensures .0, ap (storesNow s) (done .take-point .ensures .1))
+    (done .take-point .ensures .0, λ i. storesNow s (done .take-point .ensures .1 i))
 
 -- ---------------- any other record
 abbrev matched : tie.After-reply → tie.At-match-keys3
@@ -72,14 +72,14 @@ returns-3 c =
     let k = s .pre .1 in
     let said = reply-said (desk s) (lent s .stores) (s .args .«record») (m .match .keys3) in
     let e = done .reply .ensures in (
-      saying-takes k (refl, refl, refl) (k .bounds .count-a, k .bounds .count-b) (s .args .a .now) (s .args .b .now)
-          (c .saying .ensures) (ap (saying (desk s)) (e .0) ∙ said .0),
+      saying-takes k (refl, refl, refl) (k .bounds .count-a, k .bounds .count-b)
+          {t = takeRecord (desk s) (s .args .«record»)} (s .args .a .now) (s .args .b .now) (c .saying .ensures)
+          (rw (← e .0) at (said .0)),
       λ i. record { stores = said .1 i; tables = both (e .1 .0 i) (e .1 .1 i) },
     )
 
 pub take-record-spec : {M : Type 1} → statement M
 take-record-spec =
     tie.close (tie.spec
-    (search needs) (search needs) (search needs) (search needs) (search needs) (search needs) (search needs)
-    returns (search needs) (search needs) returns-2 (search needs) (search needs) (search needs) (search needs)
-    returns-3)
+    (search needs) (search needs) (search needs) (search needs) (search needs) (search needs) (search needs) returns
+    (search needs) (search needs) returns-2 (search needs) (search needs) (search needs) (search needs) returns-3)

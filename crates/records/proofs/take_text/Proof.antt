@@ -19,7 +19,9 @@ returns c =
     let done = c .before .before .before .before in
     let k = counting (done .before) in
     let a = k .before .before .args in
+    let left = done .take-record .last .1 in
     line-takes (a .state) (a .text .now) (numbers (a .a .now) (a .b .now) (a .table-a .now) (a .table-b .now))
+    (numbers (left .0) (left .1 .0) (left .1 .1 .0) (left .1 .1 .1 .0))
     (k .counted .ensures) (done .before .record-of .ensures) (done .take-record .ensures)
 
 pub take-text-spec : {M : Type 1} → statement M

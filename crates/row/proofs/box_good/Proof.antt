@@ -13,12 +13,10 @@ start c = c .before .before .before .before .before .before
 returns : tie.Need-returns
 returns c =
     let r = start c .args .r in
-    let f-xmin : SFits w64 (r .xmin) = search needs in
-    let f-xmax : SFits w64 (r .xmax) = search needs in
-    let f-ymin : SFits w64 (r .ymin) = search needs in
-    let f-ymax : SFits w64 (r .ymax) = search needs in
-    let x = simp (toZ-ofZ f-xmin, toZ-ofZ f-xmax) at (c .before .before .before .side-good .ensures) in
-    let y = simp (toZ-ofZ f-ymin, toZ-ofZ f-ymax) at (c .side-good2 .ensures) in
+    let f : SFits w64 (r .xmin) × SFits w64 (r .xmax) = (search needs, search needs) in
+    let g : SFits w64 (r .ymin) × SFits w64 (r .ymax) = (search needs, search needs) in
+    let x = simp (toZ-ofZ (f .0), toZ-ofZ (f .1)) at (c .before .before .before .side-good .ensures) in
+    let y = simp (toZ-ofZ (g .0), toZ-ofZ (g .1)) at (c .side-good2 .ensures) in
     λ d. x d && y d
 
 pub box-good-spec : {M : Type 1} → statement M

@@ -1,6 +1,6 @@
 -- `row_good` asks whether the first point is on the sheet, then for all else.
 use mathlib.Core.Path.{_≡_, sym, _∙_, ap}
-use mathlib.Core.Bool.{Bool, true, false}
+use mathlib.Core.Bool.{Bool, false}
 use borrow.Author.Needs.{needs}
 use Rattle.integers.specs.Order.{T-true}
 use Rattle.rules.specs.Sheet.{point, onSheet}

@@ -14,13 +14,11 @@ start c = c .before .before .before .before .before .before
 returns : tie.Need-returns
 returns c =
     let r = start c .args .r in
-    let f-cmin : SFits w64 (r .cmin) = search needs in
-    let f-cmax : SFits w64 (r .cmax) = search needs in
-    let f-tmin : SFits w64 (r .tmin) = search needs in
-    let f-tmax : SFits w64 (r .tmax) = search needs in
-    let e = simp (toZ-ofZ f-cmin, toZ-ofZ f-cmax) at (c .before .before .before .holds-zero .ensures) in
-    let g = simp (toZ-ofZ f-tmin, toZ-ofZ f-tmax) at (c .holds-zero2 .ensures) in
-    (λ d. e d && g d) ∙ sym (simp and-assoc)
+    let f : SFits w64 (r .cmin) × SFits w64 (r .cmax) = (search needs, search needs) in
+    let g : SFits w64 (r .tmin) × SFits w64 (r .tmax) = (search needs, search needs) in
+    let c-said = simp (toZ-ofZ (f .0), toZ-ofZ (f .1)) at (c .before .before .before .holds-zero .ensures) in
+    let t-said = simp (toZ-ofZ (g .0), toZ-ofZ (g .1)) at (c .holds-zero2 .ensures) in
+    (λ d. c-said d && t-said d) ∙ sym (simp and-assoc)
 
 pub strip-good-spec : {M : Type 1} → statement M
 strip-good-spec = tie.close (tie.spec (search needs) (search needs) returns)

@@ -24,17 +24,11 @@ negated v h = reads 1 formula (in-abs h tt & nil) tt ∙ ring 1 (λ a. con (pos 
 neg-above : {v : ℤ} → v <ℤ pos 0 → pos 0 ≤ℤ negℤ v
 neg-above {v} h = omega (zarith, P-neg v, N-neg v)
 
-sub-result : tie.Need-sub-result
-sub-result c = safe-step 1 formula 0 (in-abs (c .before .pre) tt & nil) tt
-
 cast-result : tie.Need-cast-result
 cast-result c =
     let v = c .before .args .c in
     nat-cast {w = w64} {w′ = w64} (fits 1 w64 (λ a. :neg a) (c .before .pre & nil) tt) tt (negated v (c .before .pre))
     (neg-above (lt-yes (toZ-ofZ {w = w64} (c .before .fits .c)) refl (c .if1 .taken)))
-
-returns : tie.Need-returns
-returns c = let v = c .before .args .c in ap natAbs (negated v (c .before .pre)) ∙ abs-neg v
 
 cast-result-2 : tie.Need-cast-result-2
 cast-result-2 c =
@@ -42,4 +36,8 @@ cast-result-2 c =
     nat-cast {w = w64} {w′ = w64} (c .before .fits .c) tt e (lt-no e refl (c .if1 .left))
 
 pub height-spec : {M : Type 1} → statement M
-height-spec = tie.close (tie.spec sub-result cast-result returns cast-result-2 (λ c. search needs))
+height-spec =
+    tie.close (tie.spec
+    (λ c. safe-step 1 formula 0 (in-abs (c .before .pre) tt & nil) tt) cast-result
+    (λ c. let v = c .before .args .c in ap natAbs (negated v (c .before .pre)) ∙ abs-neg v) cast-result-2
+    (λ c. search needs))

@@ -1,14 +1,14 @@
 -- `measure` goes from the first point to the last; what it has found at point i is what is measured so far.
 use mathlib.Core.Path.{_≡_, sym, ap, subst, _∙_}
 use mathlib.Core.List.{List}
-use Prim.Native.Nat.{_+_, _-_, _≤_}
+use Prim.Native.Nat.{ℕ, _+_, _-_, _≤_}
 use native.Mathlib.Numerals.{add-one}
 use native.Mathlib.Omega.{arith}
 use lib.IntN.{ℤ}
 use borrow.Author.Needs.{needs}
 use Rattle.rules.specs.Plane.{direction, cAt, tAt}
+use Rattle.rules.specs.declared.Point.{Point}
 use Rattle.rules.specs.Sheet.{point, segmentsOf}
-use Rattle.rules.specs.Tree.{nodeC, nodeT}
 use Rattle.limits.specs.Small.{OnSheet, Small}
 use Rattle.limits.proofs.Sizes.{direction-small}
 use Rattle.run.specs.declared.Measured.{Measured}
@@ -51,13 +51,6 @@ small : (c : Headed) → Small (c .direction .result)
 small c =
     let on = ends-on (c .before) in subst Small (sym (c .direction .ensures)) (direction-small (on .0) (on .1))
 
-direction-requires : tie.Need-direction-requires Inv-loop μ-loop
-direction-requires c κs = ends-on c
-
-loop-holds : tie.Need-loop-holds Inv-loop μ-loop
-loop-holds c =
-    let q = run (c .before) in (omega arith, c .start .ensures ∙ sym (so-far-start q (segmentsOf q)))
-
 with-requires : tie.Need-with-requires Inv-loop μ-loop
 with-requires c κs =
     let t = c .before .before in
@@ -74,25 +67,19 @@ with-requires c κs =
       omega (arith, s .pre .2),
     )
 
+-- what is measured with the next point is what is measured up to it
+next : (q : List ℤ) (n i : ℕ) {m r : Measured} {s e u p : Point} → m ≡ soFar q n i → s ≡ point q 0 → e ≡ point q n
+    → u ≡ direction s e → p ≡ point q (i + 1) → r ≡ measuredWith m (cAt s u p) (tAt s u p) n (i + 1)
+    → r ≡ soFar q n (i + 1)
+next q n i m s e u p w = rw (add-one i) (rw (m, u, s, e, p, add-one i, ← so-far-more q n i) at w)
+
 loop-again : tie.Need-loop-again Inv-loop μ-loop
 loop-again c =
     let t = c .before .before .before in
-    let h = headed t in
-    let q = run h in
-    let n = segmentsOf q in
-    let i = t .loop .i in
-    let s = h .before .before .point-at .ensures in
-    let e = h .before .point-at2 .ensures in
-    let u = h .direction .ensures ∙ (λ d. direction (s d) (e d)) in
-    let p = c .before .point-at3 .ensures in
-    let m = t .loop .inv .1 in
-    let j = add-one i in (
+    let h = headed t in (
       omega arith,
-      c .with .ensures
-          ∙ (λ d. measuredWith (m d) (cAt (s d) (u d) (p d)) (tAt (s d) (u d) (p d)) n (i + 1))
-          ∙ (λ d. measuredWith (soFar q n i) (nodeC q 0 n (point q (j d))) (nodeT q 0 n (point q (j d))) n (j d))
-          ∙ sym (so-far-more q n i)
-          ∙ ap (soFar q n) (sym j),
+      next (run h) (segmentsOf (run h)) (t .loop .i) (t .loop .inv .1) (h .before .before .point-at .ensures)
+          (h .before .point-at2 .ensures) (h .direction .ensures) (c .before .point-at3 .ensures) (c .with .ensures),
     )
 
 returns : tie.Need-returns Inv-loop μ-loop
@@ -105,5 +92,6 @@ returns c =
 pub measure-spec : {M : Type 1} → statement M
 measure-spec =
     tie.close (tie.spec
-    Inv-loop μ-loop (search needs) (search needs) (search needs) direction-requires (search needs) loop-holds
+    Inv-loop μ-loop (search needs) (search needs) (search needs) (λ c κs. ends-on c) (search needs)
+    (λ c. let q = run (c .before) in (omega arith, c .start .ensures ∙ sym (so-far-start q (segmentsOf q))))
     (search needs) (search needs) with-requires (search needs) loop-again returns)

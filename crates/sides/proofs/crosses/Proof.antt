@@ -76,10 +76,9 @@ rises-requires c κs =
 returns : tie.Need-returns
 returns c =
     let s = start (c .before) .args in
-    c .rises .ensures
-    ∙ ⊎-elim
-    (λ f. (λ d. rising (s .z) (f .0 d) (f .1 d)) ∙ falling (s .z) (s .a) (s .b) (f .2))
-    (λ f. (λ d. rising (s .z) (f .0 d) (f .1 d)) ∙ climbing (s .z) (s .a) (s .b) (f .2))
+    ⊎-elim
+    (λ f. rw (f .0, f .1, falling (s .z) (s .a) (s .b) (f .2)) at (c .rises .ensures))
+    (λ f. rw (f .0, f .1, climbing (s .z) (s .a) (s .b) (f .2)) at (c .rises .ensures))
     (ends (c .before))
 
 pub crosses-spec : {M : Type 1} → statement M

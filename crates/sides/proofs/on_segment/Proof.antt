@@ -61,11 +61,6 @@ returns-2 c =
     let f = sym (level-told (c .before)) ∙ not-true _ (c .if2 .taken) in
     sym (λ d. e d && f d && straight (start (b .before)))
 
-c-at-requires : tie.Need-c-at-requires
-c-at-requires c κs =
-    let p = start-2 (c .before .before) .pre in
-    (p .1, stepped (p .1) (p .2) (c .step .ensures), p .0)
-
 returns-3 : tie.Need-returns-3
 unfolding onSegment
 returns-3 c =
@@ -82,4 +77,7 @@ returns-3 c =
 
 pub on-segment-spec : {M : Type 1} → statement M
 on-segment-spec =
-    tie.close (tie.spec (search needs) returns (search needs) returns-2 (search needs) c-at-requires returns-3)
+    tie.close (tie.spec
+    (search needs) returns (search needs) returns-2 (search needs)
+    (λ c κs. let p = start-2 (c .before .before) .pre in (p .1, stepped (p .1) (p .2) (c .step .ensures), p .0))
+    returns-3)

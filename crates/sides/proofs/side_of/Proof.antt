@@ -17,9 +17,6 @@ c-is-side z l h =
     ring 4 (λ ux uy vx vy. ux :* vy :- uy :* vx := ux :* vy :- vx :* uy) tt
     (step l h .x) (step l h .y) (step l z .x) (step l z .y)
 
-c-at-requires : tie.Need-c-at-requires
-c-at-requires c κs = let p = c .before .pre in (p .1, stepped (p .1) (p .2) (c .step .ensures), p .0)
-
 returns : tie.Need-returns
 returns c =
     let a = c .before .before .args in
@@ -27,4 +24,6 @@ returns c =
     result w64 (c .c-at .ok) (c .c-at .ensures ∙ e ∙ c-is-side (a .z) (a .l) (a .h))
 
 pub side-of-spec : {M : Type 1} → statement M
-side-of-spec = tie.close (tie.spec (search needs) c-at-requires returns)
+side-of-spec =
+    tie.close (tie.spec
+    (search needs) (λ c κs. let p = c .before .pre in (p .1, stepped (p .1) (p .2) (c .step .ensures), p .0)) returns)

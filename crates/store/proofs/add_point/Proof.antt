@@ -9,9 +9,6 @@ use borrow.Author.Needs.{needs}
 use Rattle.store.proofs.add_point.Statement.{statement}
 use Rattle.store.proofs.add_point.Tie as tie
 
-slice-set-from-y : tie.Need-slice-set-from-y
-slice-set-from-y c = simp length-set (omega arith)
-
 -- the point is read back as it came
 came : (s : tie.Start) →
     (toZ w32 (ofZ w32 (s .args .x)) ≡ s .args .x) × (toZ w32 (ofZ w32 (s .args .y)) ≡ s .args .y)
@@ -25,23 +22,9 @@ returns c =
     rw (x, y)
     (point-stored (s .args .held) (s .args .points .now) (s .pre) (s .args .x) (s .args .y) (c .if1 .taken))
 
-returns-2 : tie.Need-returns-2
-returns-2 c =
-    let s = c .before in
-    point-past (s .args .held) (s .args .points .now) (s .pre) (s .args .x) (s .args .y) (c .if1 .left)
-
 pub add-point-spec : {M : Type 1} → statement M
 add-point-spec =
-    tie.close
-    (tie.spec
-    (λ c. search needs)
-    (λ c. search needs)
-    (λ c. search needs)
-    (λ c. search needs)
-    (λ c. search needs)
-    (λ c. search needs)
-    slice-set-from-y
-    (λ c. search needs)
-    (λ c. search needs)
-    returns
-    returns-2)
+    tie.close (tie.spec
+    (λ c. search needs) (λ c. search needs) (λ c. search needs) (λ c. search needs) (λ c. search needs)
+    (λ c. search needs) (λ c. simp length-set (omega arith)) (λ c. search needs) (λ c. search needs) returns
+    (λ c. let s = c .before in point-past _ _ (s .pre) (s .args .x) (s .args .y) (c .if1 .left)))

@@ -3,7 +3,7 @@ use mathlib.Core.Path.{_≡_, sym, _∙_}
 use Rattle.words.specs.declared.Record.{Record}
 use Rattle.words.specs.declared.Form.{Form}
 use Rattle.words.specs.declared.Numbers.{Numbers}
-use Rattle.words.specs.Records.{madeOf}
+use Rattle.words.specs.Forms.{madeOf}
 use borrow.Author.Needs.{needs}
 use Rattle.words.proofs.made_of.Statement.{statement}
 use Rattle.words.proofs.made_of.Tie as tie

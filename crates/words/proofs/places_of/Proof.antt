@@ -1,5 +1,5 @@
 -- `places_of` goes by the same cases as its definition.
-use Rattle.words.specs.Records.{placesOf}
+use Rattle.words.specs.Forms.{placesOf}
 use Rattle.words.proofs.Choice.{by-case}
 use borrow.Author.Needs.{needs}
 use Rattle.words.proofs.places_of.Statement.{statement}

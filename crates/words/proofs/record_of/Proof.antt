@@ -10,8 +10,10 @@ use Rattle.words.specs.declared.Record.{Record}
 use Rattle.words.specs.declared.Record.the-variants.{NotUnderstood}
 use Rattle.words.specs.Fields.{fields, field}
 use Rattle.words.specs.Numbers.{numbersAt}
-use Rattle.words.specs.Records.{LINE, longest, is, lineNamed, placesOf, madeOf, recordIn, recordOf}
+use Rattle.words.specs.Records.{LINE, longest, is, lineNamed, recordIn, recordOf}
+use Rattle.words.specs.Forms.{placesOf, madeOf}
 use Rattle.words.proofs.Choice.{chosen, passed-over}
+use Rattle.words.proofs.Forms.{made-numbered}
 use borrow.Author.Needs.{needs}
 use Rattle.words.proofs.record_of.Statement.{statement}
 use Rattle.words.proofs.record_of.Tie as tie
@@ -57,6 +59,7 @@ returns-3 c =
     ∙ ap (λ n. madeOf n (form .form-of .result)) (numbers .numbers-at .ensures)
     ∙ ap (λ p. madeOf (numbersAt fs p) (form .form-of .result)) (places .places-of .ensures)
     ∙ ap (λ f. madeOf (numbersAt fs (placesOf f)) f) (form .form-of .ensures)
+    ∙ made-numbered (known .before .field-count .result) (now (known .field .result)) fs
     ∙ passed-over {t = is (known .before .field-count .result) (now (known .field .result)) LINE 2} _ _
     (asked .before .is .ensures) (asked .if2 .left) refl
     ∙ short known

@@ -1,5 +1,5 @@
 -- `strip_apart` asks t along u turned, which is c, then t along u.
-use mathlib.Core.Path.{_≡_, sym, _∙_, subst}
+use mathlib.Core.Path.{_≡_, sym, subst}
 use mathlib.Core.Bool.{Bool, false, _||_}
 use Rattle.integers.specs.Range.{neg-bound}
 use Rattle.rules.specs.declared.Point.{Point}
@@ -34,13 +34,11 @@ first : (c : tie.After-beyond) {b : Bool} → c .beyond .result ≡ b
 first c e =
     let a = start c .args in
     let v = c .before .before .before .turned in
-    let told =
-    c .beyond .ensures
-    ∙ both-back (λ lo hi. beyondCorners (tAt (a .s) (v .result)) lo hi (a .other)) (search needs) (search needs)
-    ∙ (λ i. beyondCorners (tAt (a .s) (v .ensures i)) (a .row .cmin) (a .row .cmax) (a .other))
-    ∙ sym (beyond-turned (a .s) (a .u) (a .row .cmin) (a .row .cmax) (a .other))
+    let stored =
+    both-back {x = a .row .cmin} {y = a .row .cmax} (λ lo hi. beyondCorners (tAt (a .s) (v .result)) lo hi (a .other))
+    (search needs) (search needs)
     in
-    λ i. byFirst (start c) ((sym e ∙ told) i)
+    let turns = beyond-turned (a .s) (a .u) (a .row .cmin) (a .row .cmax) (a .other) in cc
 
 -- and the second what t does
 second : (s : tie.Start) → let a = s .args in
@@ -52,7 +50,8 @@ second s =
 returns-2 : tie.Need-returns-2
 returns-2 c =
     let f = c .before .before .before in
-    c .beyond2 .ensures ∙ second (start (f .before)) ∙ first (f .before) (f .if1 .left)
+    let stored = second (start (f .before)) in
+    let says = first (f .before) (f .if1 .left) in cc
 
 pub strip-apart-spec : {M : Type 1} → statement M
 strip-apart-spec =

@@ -27,5 +27,4 @@ returns c =
 
 pub turned-spec : {M : Type 1} → statement M
 turned-spec =
-    tie.close
-    (tie.spec (λ c. safe-step 1 formula 0 (in-abs (c .before .before .pre .y-in) tt & nil) tt) returns)
+    tie.close (tie.spec (λ c. safe-step 1 formula 0 (in-abs (c .before .before .pre .y-in) tt & nil) tt) returns)

@@ -163,8 +163,7 @@ module _ (t : ℕ) where
       let rightRow = nodeRow ps s (a .last) in
       let many = count-rows (pred f) ps (a .first) s (b .0) (omega arith) in
       let left : y1 ≡ L ++ drop (length L) (take (k - width) (drop width t1)) =
-      l .before .build-node .ensures (pred f) (omega arith)
-      ∙ (λ d. L ++ drop (sym many d) (take (k - width) (drop width t1))) in
+      rw (← many) at (l .before .build-node .ensures (pred f) (omega arith)) in
       let right : y2 ≡ R ++ drop m (take (length t2 - k) (drop k t2)) =
       r .before .build-node2 .ensures (pred f) (omega arith) in
       let room = row-room (a .first) s (a .last) (b .0) (b .1) in

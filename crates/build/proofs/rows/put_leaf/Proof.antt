@@ -1,22 +1,21 @@
 -- `put_leaf`: each number is what the leaf's two points make of it.
 use mathlib.Core.Path.{_≡_, sym, ap, subst, _∙_}
-use mathlib.Core.List.{List, _++_}
+use mathlib.Core.List.{List}
 use Prim.Native.Nat.{ℕ}
 use native.Mathlib.Omega.{arith}
 use lib.IntN.{ℤ}
-use lib.ListN.{drop}
 use Rattle.integers.specs.Order.{minZ, maxZ}
 use Rattle.rules.specs.declared.Point.{Point}
 use Rattle.rules.specs.declared.Row.{Row}
 use Rattle.rules.specs.Plane.{step, size²}
 use Rattle.rules.specs.Sheet.{point}
-use Rattle.rules.specs.Tree.{width, numbers, measured, noSplit}
+use Rattle.rules.specs.Tree.{numbers, measured, noSplit}
 use Rattle.limits.specs.Small.{OnSheet}
 use Rattle.line.proofs.Smalls.{stepped}
 use Rattle.line.proofs.Stored.{readBack, point-stored}
 use Rattle.table_truth.specs.RowRange.{AllFit}
 use Rattle.run.proofs.Points.{read-on}
-use Rattle.build.proofs.Numbers.{wides-same}
+use Rattle.build.proofs.Numbers.{wides-same, wides-written}
 use Rattle.build.proofs.Leaf.{leafRow, leaf-measured}
 use Rattle.build.proofs.Node.{row-fits, leaf-row}
 use borrow.Author.Needs.{needs}
@@ -108,25 +107,17 @@ module _ (c : tie.After-greater2) where
       subst (λ (r : Row). AllFit (numbers r)) (sym written)
       (row-fits points first last (p .0) (p .3) (p .4) (p .2) noSplit (record { abs = omega arith }))
 
-step-requires : tie.Need-step-requires
-step-requires c κs = ends-on (c .before)
-
-size2-requires : tie.Need-size2-requires
-size2-requires c κs = let on = ends-on (c .before .before) in stepped (on .0) (on .1) (c .step .ensures)
-
-put-numbers-requires : tie.Need-put-numbers-requires
-put-numbers-requires c κs =
-    (start (at c) .pre .5, subst AllFit (sym (wides-same (numbers (row c)) (fits c))) (fits c))
-
 returns : tie.Need-returns
 returns c =
     let w = c .before .before in
     let r = written w ∙ leaf-row (points w) (first w) (last w) (start (at w) .pre .1) in
-    let t = start (at w) .args .table .now in
-    c .before .put-numbers .ensures ∙ (λ d. (wides-same (numbers (row w)) (fits w) ∙ ap numbers r) d ++ drop width t)
+    wides-written (numbers (row w)) _ (fits w) (ap numbers r) (c .before .put-numbers .ensures)
 
 pub put-leaf-spec : {M : Type 1} → statement M
 put-leaf-spec =
     tie.close (tie.spec
-    (search needs) (search needs) (search needs) (search needs) step-requires size2-requires (search needs)
-    (search needs) (search needs) (search needs) put-numbers-requires (search needs) returns)
+    (search needs) (search needs) (search needs) (search needs) (λ c κs. ends-on (c .before))
+    (λ c κs. let on = ends-on (c .before .before) in stepped (on .0) (on .1) (c .step .ensures)) (search needs)
+    (search needs) (search needs) (search needs)
+    (λ c κs. (start (at c) .pre .5, subst AllFit (sym (wides-same (numbers (row c)) (fits c))) (fits c))) (search needs)
+    returns)

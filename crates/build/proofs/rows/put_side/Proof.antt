@@ -50,9 +50,6 @@ module _ (c : tie.After-extreme) where
   fits : SFits w32 (c .extreme .result)
   fits = subst (SFits w32) (sym found) (extreme-fits (start .args .least) next-fits far-fits)
 
-cast-table : tie.Need-cast-table
-cast-table c = wide-fits (fits c)
-
 returns : tie.Need-returns
 returns c =
     let a = start c .args in
@@ -65,4 +62,4 @@ pub put-side-spec : {M : Type 1} → statement M
 put-side-spec =
     tie.close (tie.spec
     (search needs) (search needs) (search needs) (search needs) (search needs) (search needs) (search needs)
-    (search needs) (search needs) cast-table (search needs) (search needs) (search needs) returns)
+    (search needs) (search needs) (λ c. wide-fits (fits c)) (search needs) (search needs) (search needs) returns)

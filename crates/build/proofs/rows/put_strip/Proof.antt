@@ -1,18 +1,17 @@
 -- `put_strip`: what is measured of the part is the strip and the split of the node.
 use mathlib.Core.Path.{_≡_, sym, ap, subst, _∙_}
-use mathlib.Core.List.{List, _++_}
+use mathlib.Core.List.{List}
 use Prim.Native.Nat.{ℕ, _+_, _<_}
 use native.Mathlib.Omega.{arith}
 use lib.IntN.{ℤ, pos}
-use lib.ListN.{drop}
 use Rattle.rules.specs.declared.Row.{Row}
 use Rattle.rules.specs.Sheet.{most}
-use Rattle.rules.specs.Tree.{width, numbers, splitOf, measured}
+use Rattle.rules.specs.Tree.{numbers, splitOf, measured}
 use Rattle.table_truth.specs.RowRange.{AllFit}
 use Rattle.table_truth.proofs.Rows.{split-between}
 use Rattle.run.specs.declared.Measured.{Measured}
 use Rattle.build.specs.Rows.{unboxed}
-use Rattle.build.proofs.Numbers.{wides-same}
+use Rattle.build.proofs.Numbers.{wides-same, wides-written}
 use Rattle.build.proofs.Node.{rowOf, run-segments, run-on, run-row, run-split, strip-fits, inner-row}
 use borrow.Author.Needs.{needs}
 use Rattle.build.proofs.rows.put_strip.Statement.{statement}
@@ -73,12 +72,6 @@ measure-requires c κs =
     let n = run-segments (a .points .now) (a .first) (a .last) (omega arith) (p .2) in
     (run-on (a .points .now) (a .first) (a .last) (omega arith) (p .2) (p .3), omega arith, omega arith)
 
-add-split : tie.Need-add-split
-add-split c = let l = below (c .before) in omega arith
-
-cast-put-numbers-3 : tie.Need-cast-put-numbers-3
-cast-put-numbers-3 c = let l = below (handed c) in record { sfits = omega arith }
-
 put-numbers-requires : tie.Need-put-numbers-requires
 put-numbers-requires c κs =
     let m = handed (told c) in
@@ -89,12 +82,11 @@ returns c =
     let m = handed (told (c .before .before)) in
     let split-of = ap (λ (n : ℕ). unboxed (measured (points m) (first m) (last m) (pos n))) (found m) in
     let r = written m ∙ split-of ∙ ap unboxed (inner-row (points m) (first m) (last m) (start m .pre .0)) in
-    let e = wides-same (numbers (row m)) (fits m) ∙ ap numbers r in
-    (found m, c .before .put-numbers .ensures ∙ (λ d. e d ++ drop width (start m .args .table .now)))
+    (found m, wides-written (numbers (row m)) _ (fits m) (ap numbers r) (c .before .put-numbers .ensures))
 
 pub put-strip-spec : {M : Type 1} → statement M
 put-strip-spec =
     tie.close (tie.spec
     (search needs) (search needs) (search needs) (search needs) (search needs) (search needs) (search needs)
-    measure-requires add-split (search needs) (search needs) cast-put-numbers-3 put-numbers-requires (search needs)
-    returns)
+    measure-requires (λ c. let l = below (c .before) in omega arith) (search needs) (search needs)
+    (λ c. let l = below (handed c) in record { sfits = omega arith }) put-numbers-requires (search needs) returns)

@@ -17,9 +17,6 @@ not-lower c = le-ltb _ _ (c .if1 .left)
 level : (c : tie.Else2) → eqb (c .before .before .args .self .height) (c .before .before .args .height) ≡ true
 level c = let a = c .before .before .args in eq-eqb (a .self .height) (a .height) (omega arith)
 
-returns : tie.Need-returns
-returns c = sym (simp (lt-ltb _ _ (c .if1 .taken)))
-
 returns-2 : tie.Need-returns-2
 returns-2 c =
     let a = c .before .before .args in
@@ -41,4 +38,5 @@ returns-4 c =
     sym (simp (not-lower (k .before), level k, o))
 
 pub with-spec : {M : Type 1} → statement M
-with-spec = tie.close (tie.spec returns returns-2 (search needs) returns-3 returns-4)
+with-spec =
+    tie.close (tie.spec (λ c. sym (simp (lt-ltb _ _ (c .if1 .taken)))) returns-2 (search needs) returns-3 returns-4)
