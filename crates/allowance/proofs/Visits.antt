@@ -21,6 +21,7 @@ use Rattle.rules.specs.Rows.{good}
 use Rattle.rules.specs.Walk.{Visit, halve}
 use Rattle.rules.specs.Questions.{leftOf, rightOf, leaf, size, splitIn, readRow, openNode, startOf, endOf, headingOf}
 use Rattle.rules.specs.Questions.{farFrom, nearVisit, meetVisit, clearOf, count, inVisit}
+use Rattle.visits.specs.Nodes.{Inner}
 use Rattle.visits.proofs.Nodes.{good-read, larger-opens, other-opens}
 use Rattle.visits.proofs.Visits.{nodeVisit, withA, withB, pairApart, pairShares}
 use Rattle.allowance.proofs.Walks.{Shares, refuses, finishes, passes, halves, Halving}
@@ -48,15 +49,14 @@ module _ {S N : Type 0} {Fine : ℕ → N → Type 0} {parts : N → ℕ} {f : �
 abbrev Spans : ℕ → Node → Type 0
 Spans f n = (n .first < n .last) × (n .last ≤ f + n .first)
 
--- a split strictly between first and last
-abbrev Between : Node → ℕ → Type 0
-Between n s = (n .first < s) × (s < n .last)
+-- a split that halves a node is an inner point
+abbrev Halves : Node → ℕ → Type 0
+Halves n s = Inner (n .first) s (n .last)
 
 -- so a good row of more than one segment splits
 good-between : (ps t : List ℤ) (n : Node) → T (good ps (rowAt t (n .row)) (n .first) (n .last)) → n .first + 1 < n .last
-    → Between n (splitIn (rowAt t (n .row)))
-good-between ps t n g l =
-    let i = good-read ps (rowAt t (n .row)) (n .first) (n .last) g .split-between l in (i .above, i .below)
+    → Halves n (splitIn (rowAt t (n .row)))
+good-between ps t n g l = good-read ps (rowAt t (n .row)) (n .first) (n .last) g .split-between l
 
 -- NEAR's and IN's visits halve a node's segments
 node-halves : {S : Type 0} (l : Line) (ps t : List ℤ) (dismissed exact : Node → Bool) (h : Node → S → S)
@@ -69,7 +69,7 @@ node-halves l ps t dismissed exact h = record {
       shares-cond (dismissed n) (λ _. passes) λ _.
       shares-cond (leaf n) (λ _. shares-cond (exact n) (λ _. finishes) (λ _. passes)) λ e.
       let s = splitIn (rowAt t (n .row)) in
-      let b : Between n s = good-between ps t n g (nleb→lt _ _ e) in
+      let b : Halves n s = good-between ps t n g (nleb→lt _ _ e) in
       shares-open l ps n s (halves (leftOf n s) (rightOf n s) (omega arith) (omega arith) (omega arith));
 }
 
@@ -96,16 +96,16 @@ abbrev pairs : Pair → ℕ
 pairs n = size (n .a) * size (n .b)
 
 -- the halves of a node share its segments; so the halves of a pair, whichever of its nodes is split, share its pairs
-sizes : (n : Node) (s : ℕ) → Between n s → size (leftOf n s) + size (rightOf n s) ≡ size n
+sizes : (n : Node) (s : ℕ) → Halves n s → size (leftOf n s) + size (rightOf n s) ≡ size n
 sizes n s b = omega arith
 
-a-halves : {S : Type 0} (f : ℕ) (n : Pair) (s : ℕ) → PairSpans (suc f) n → Between (n .a) s
+a-halves : {S : Type 0} (f : ℕ) (n : Pair) (s : ℕ) → PairSpans (suc f) n → Halves (n .a) s
     → Shares {S = S} PairSpans pairs f n (halve (withA n (leftOf (n .a) s)) (withA n (rightOf (n .a) s)))
 a-halves f n s h b =
     halves (withA n (leftOf (n .a) s)) (withA n (rightOf (n .a) s)) (omega arith) (omega arith)
     (le-of-eq (sym (add-mul _ _ _) ∙ ap (λ k. k * size (n .b)) (sizes (n .a) s b)))
 
-b-halves : {S : Type 0} (f : ℕ) (n : Pair) (s : ℕ) → PairSpans (suc f) n → Between (n .b) s
+b-halves : {S : Type 0} (f : ℕ) (n : Pair) (s : ℕ) → PairSpans (suc f) n → Halves (n .b) s
     → Shares {S = S} PairSpans pairs f n (halve (withB n (leftOf (n .b) s)) (withB n (rightOf (n .b) s)))
 b-halves f n s h b =
     halves (withB n (leftOf (n .b) s)) (withB n (rightOf (n .b) s)) (omega arith) (omega arith)
