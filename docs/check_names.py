@@ -21,7 +21,8 @@ FOREIGN = {"none", "requires", "read", "write", "libc::read", "libc::write", "pk
 
 SPAN = r"`[^`\n]+`"
 FILE = r"[\w/]+\.(?:antt|rt)"
-CITED = re.compile(rf"((?:{SPAN}(?: \.\.)?(?:,| and)?\s+)+)\(({FILE}(?:,\s+{FILE})*)\)")
+FILES = rf"\(({FILE}(?:,\s+{FILE})*)\)"
+CITED = re.compile(rf"((?:{SPAN}(?: \.\.)?(?:,| and)?\s+)+){FILES}")
 WORD = re.compile(r"[^\W\d][\w²′⊕<≤-]*")
 PATH = re.compile(r"[\w.-]+(?:/[\w.-]+)+")
 DISTINCT = re.compile(r"[a-zA-Z]-[a-zA-Z\d]|[a-z][A-Z]")  # near-built, nearReply: hardly another word looks so
@@ -63,16 +64,19 @@ class Check:
     def fault(self, at, what):
         self.wrong.append((self.text.count("\n", 0, at) + 1, what))
 
-    def files(self, at, cited):
+    def files(self, cited):
         """The cited files; one without a folder stands beside the one before it."""
         found, folder = [], ""
         for name in re.split(r",\s+", cited):
-            name = name if "/" in name else folder + name
-            folder = name[: name.rfind("/") + 1]
-            found.append(name)
+            found.append(name if "/" in name else folder + name)
+            folder = found[-1][: found[-1].rfind("/") + 1]
+        return found
+
+    def exist(self, at, files):
+        for name in files:
+            self.checked += 1
             if name not in self.sources:
                 self.fault(at, f"no file crates/{name}")
-        return found
 
     def bound(self, at, span, files):
         """A name with files; of an expression, some word is what they declare."""
@@ -104,8 +108,10 @@ class Check:
                     self.fault(at, f"`{word}` is declared nowhere")
 
     def run(self):
+        for cited in re.finditer(FILES, self.text):
+            self.exist(cited.start(), self.files(cited[1]))
         for cited in CITED.finditer(self.text):
-            files = self.files(cited.start(2), cited[2])
+            files = self.files(cited[2])
             for span in re.finditer(SPAN, cited[1]):
                 self.bound(cited.start(1) + span.start(), span[0][1:-1], files)
         for table in re.finditer(r"(?:^\|.*\n)+", self.text, re.M):
@@ -126,7 +132,8 @@ class Check:
             if row[0][1].strip() != "file":
                 continue
             for k, (start, cell) in list(enumerate(row))[1:]:
-                files = self.files(start, cell.strip())
+                files = self.files(cell.strip())
+                self.exist(start, files)
                 for cells in rows:
                     for span in re.finditer(SPAN, cells[k][1]):
                         self.bound(cells[k][0] + span.start(), span[0][1:-1], files)
@@ -168,7 +175,7 @@ def main():
             links += 1
             if not (path.parent / link).exists():
                 wrong.append(f"{name}: no file {link}")
-    wrong.append(f"names: {names} names, {cited} sections and {links} links cited, {len(wrong)} of them wrong")
+    wrong.append(f"names: {names} names and files, {cited} sections and {links} links cited, {len(wrong)} of them wrong")
     print("\n".join(wrong))
     return 1 if wrong[1:] else 0
 
