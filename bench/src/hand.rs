@@ -1,7 +1,7 @@
 //! The yardstick: a strip tree written by hand, in Rust, for speed.
 //!
 //! Same table rows, same walk, same visits, same row check at every visit, same refusals in the same
-//! order as document 01, and so the same reply to every call, damaged tables included. It uses what a
+//! order as in the rules, and so the same reply to every call, damaged tables included. It uses what a
 //! careful Rust programmer would: raw reads where a length was checked before, 32-bit arithmetic where
 //! the ranges allow it, a stack of pending ends in place of calls. Nothing is proved here; `main.rs`
 //! holds every reply against the proved library and against the plain scan.
@@ -10,8 +10,8 @@
 //! 2,147,221,512 < 2^31, and so is each of their two products. A good row has cmin, tmin <= 0 <=
 //! cmax, tmax, so a shortfall is at most |c| or |t|, whatever else the row holds.
 //!
-//! Some come in two ways, chosen by `FORM`. False is the faster one. True has the form that document 01
-//! prescribes for the proved code: a walk calls itself on both halves, in place of a stack of its own; a
+//! Some come in two ways, chosen by `FORM`. False is the faster one. True has the form that is
+//! asked of the proved code: a walk calls itself on both halves, in place of a stack of its own; a
 //! builder measures strip and box of each node over its run of points, in place of putting the box
 //! together from those of the halves. What the form alone costs is the difference between the two.
 

@@ -1,4 +1,4 @@
-//! The plain scan: document 01's plain geometry over all segments, with no tree.
+//! The plain scan: the rules' plain geometry over all segments, with no tree.
 //!
 //! It decides what is right: every answer of the trees is held against it. It is also what a program does that has no
 //! tree, so it is written well: one pass, 32-bit products where the ranges allow it, out at the first yes.

@@ -81,7 +81,7 @@ pub fn heading(repetitions: usize) {
         "
 ours   the archive
 hand   the hand-written strip tree: same rows, same walk, same row check; walks by a stack of its own, boxes from the halves
-form   the same in the form that document 01 prescribes for ours: walks by calls, each run measured whole (meet: hand is)
+form   the same in the form that is asked of ours: walks by calls, each run measured whole (meet: hand is)
 plain  the plain scan over all segments
 
 Nanoseconds per question, for build per segment: medians of {repetitions} interleaved repetitions. Ratios are medians of those within a

@@ -1,4 +1,4 @@
-//! What document 01 says, written out number by number where definition, code and second reading could err alike: which
+//! What the rules say, written out number by number where definition, code and second reading could err alike: which
 //! of two reasons to refuse is told, and what a strip dismisses. `compare` asks both readings each time.
 
 use compare::{agree, inside, meet, Lent};
@@ -47,7 +47,7 @@ fn unfit() -> Vec<(u32, Lent)> {
     ]
 }
 
-/// Lines of which the root row is bad, with the reason: each that document 01 names.
+/// Lines of which the root row is bad, with the reason: each that the rules name.
 fn bad_roots() -> Vec<(&'static str, Lent)> {
     let row_of_l = |k: usize, value: i32| {
         let mut line = Lent::built(&L);

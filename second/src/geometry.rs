@@ -1,6 +1,6 @@
 //! Exact tests on points and segments, and the plain answers over all segments.
 //!
-//! Document 01, "The plain geometry that decides". For points on the sheet and distances of at
+//! docs/RULES.md, section 3. For points on the sheet and distances of at
 //! most 32,767 every value here stays below 2^63, and all of it is computed in i128, so nothing can
 //! wrap. The strips have their own arithmetic (tree.rs, i64): a slip in one is seen by the other.
 
@@ -59,12 +59,12 @@ fn step(from: Point, to: Point) -> Step {
     )
 }
 
-/// Document 01's c: positive to the left of `u`.
+/// The rules' c: positive to the left of `u`.
 fn cross(u: Step, v: Step) -> i128 {
     u.0 * v.1 - u.1 * v.0
 }
 
-/// Document 01's t.
+/// The rules' t.
 fn dot(u: Step, v: Step) -> i128 {
     u.0 * v.0 + u.1 * v.1
 }

@@ -1,4 +1,4 @@
-//! An independent reading of document 01: plain geometry over all segments beside a strip tree with its own walks.
+//! An independent reading of the rules: plain geometry over all segments beside a strip tree with its own walks.
 //! The binary answers question files; tests elsewhere hold the proved library against these functions.
 
 pub mod generate;

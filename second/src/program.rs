@@ -1,6 +1,6 @@
 //! The question program: bytes in, printed lines out.
 //!
-//! Document 01, "The question program". Input is taken in pieces of any size; what is kept from
+//! docs/RULES.md, section 7. Input is taken in pieces of any size; what is kept from
 //! one piece to the next is at most 80 bytes of an unfinished text line, the two stores and two
 //! counters, so memory does not grow with the input.
 
@@ -460,7 +460,7 @@ mod tests {
         String::from_utf8(output).expect("only letters, digits and tabs are printed")
     }
 
-    /// Input and output with spaces for tabs, as document 01 shows them.
+    /// Input and output with spaces for tabs, as the rules show them.
     fn shown(input: &str) -> String {
         answers(input.replace(' ', "\t").as_bytes()).replace('\t', " ")
     }

@@ -1,6 +1,6 @@
 //! The strip tree: measuring a run of points, building the table, the refusals of a build.
 //!
-//! Document 01, "The tree". For a point on the sheet, with u the step of a node:
+//! docs/RULES.md, section 2. For a point on the sheet, with u the step of a node:
 //! |c| and |t| are at most |u| * |p - s| <= 2 * 32,766^2 < 2^31, so they fit the table's i32, and
 //! their squares fit i64 with room to spare.
 
@@ -73,7 +73,7 @@ pub struct Frame {
 impl Frame {
     pub fn of(first: Point, last: Point) -> Frame {
         let (dx, dy) = if first == last {
-            // A closed run has no direction of its own: document 01 gives it the x axis.
+            // A closed run has no direction of its own: the rules give it the x axis.
             (1, 0)
         } else {
             (

@@ -1,6 +1,6 @@
 //! The four questions by the written walk, with visits counted against an allowance.
 //!
-//! Document 01, "The written walk". Each walk is a loop over a stack of nodes that are due, the
+//! docs/RULES.md, section 4. Each walk is a loop over a stack of nodes that are due, the
 //! next one on top; taking a node from the stack is what makes a visit due. Values stay in i64:
 //! a checked row has cmin <= 0 <= cmax (t likewise), so a shortfall is at most |c(z)| < 2^31, and
 //! D^2 * |u|^2 < 2^61.

@@ -1,5 +1,5 @@
 -- Demand 3 for the four questions: whatever the points and table lists hold, the allowance decides between one answer
--- and Undecided, and the visits of document 01 are enough. An early refusal comes at once, else what is settled is read
+-- and Undecided, and the visits of the rules are enough. An early refusal comes at once, else what is settled is read
 -- as a reply.
 use mathlib.Core.Path.{_≡_, refl, sym, _∙_, ap}
 use mathlib.Core.Bool.{Bool, true, false}

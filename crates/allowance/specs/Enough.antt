@@ -1,4 +1,4 @@
--- The visits that are enough, as document 01 bounds them.
+-- docs/RULES.md, section 4.7: the visits that are enough.
 use mathlib.Core.List.{List}
 use Prim.Native.Nat.{ℕ, _+_, _*_, _-_}
 use lib.IntN.{ℤ}

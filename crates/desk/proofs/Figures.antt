@@ -1,4 +1,5 @@
--- Document 01's whole case, of the definition, by computation: seven text lines, the last without its line feed.
+-- The whole case of docs/RULES.md, section 7.9, of the definition, by computation: seven text lines, the last without
+-- its line feed.
 use mathlib.Core.Path.{_≡_, refl}
 use mathlib.Core.List.{List, [], _∷_}
 use Prim.Native.Nat.{ℕ}

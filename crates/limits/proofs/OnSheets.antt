@@ -1,4 +1,4 @@
--- A point that passes the test of document 01 has both coordinates bounded, and the other way round.
+-- A point that passes the rules' test has both coordinates bounded, and the other way round.
 use Prim.Native.Nat.{ℕ}
 use lib.Dec.{T}
 use lib.IntN.{ℤ, pos, negℤ}

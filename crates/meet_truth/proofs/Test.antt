@@ -1,4 +1,4 @@
--- Document 01's exact test of two segments, read and made: its parts as facts.
+-- The rules' exact test of two segments, read and made: its parts as facts.
 use mathlib.Core.Path.{_≡_}
 use mathlib.Core.Bool.{Bool, not, _&&_}
 use lib.Dec.{T}

@@ -1,4 +1,4 @@
--- What it means that two segments share a point, and that two lines do, without a division and without document 01's
+-- What it means that two segments share a point, and that two lines do, without a division and without the rules'
 -- test of boxes and sides.
 use mathlib.Core.Path.{_≡_}
 use mathlib.Core.List.{List}

@@ -1,3 +1,3 @@
--- What the theorems of this crate speak of beside document 01's own words.
+-- What the theorems of this crate speak of beside the rules' own words.
 pub mod Reach
 pub mod First

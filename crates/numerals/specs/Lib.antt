@@ -1,3 +1,3 @@
--- Document 01, "The question program": how a field is read as a number.
+-- docs/RULES.md, section 7.3: how a field is read as a number.
 pub mod Numerals
 pub mod Read

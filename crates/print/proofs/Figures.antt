@@ -1,4 +1,4 @@
--- The output of the whole case of document 01.
+-- The output of the whole case of docs/RULES.md, section 7.9.
 use mathlib.Core.Path.{_≡_, refl}
 use mathlib.Core.List.{[], _∷_, _++_}
 use Rattle.rules.specs.declared.Line.the-variants.{LineB}

@@ -1,4 +1,4 @@
--- Document 01, "The question program": the printed line.
+-- docs/RULES.md, section 7.6: the printed line.
 pub mod Decimal
 pub mod Printed
 pub mod Put

@@ -15,7 +15,7 @@ use Rattle.store.specs.States.{heard, counted, quietly, sayingly}
 use Rattle.records.specs.Left.{Both, Numbers, storesLeft, recordLeft, textLeft}
 use Rattle.records.specs.Carried.{deskOf, Bounds}
 
--- ---- the paper's values of an outcome
+-- ---- the definitions' values of an outcome
 abbrev pub takenIn : Outcome → List ℤ → List ℤ → Taken
 takenIn t a b = record { desk = deskOf (t .state) a b; said = heard (t .speech) }
 

@@ -1,5 +1,5 @@
 -- The questions as they would be without the check of refusal 11: a node that is opened hands on its halves, whatever
--- their rows. All else is as in document 01's questions.
+-- their rows. All else is as in the questions of the rules.
 use mathlib.Core.Bool.{Bool, false, cond, _&&_}
 use mathlib.Core.List.{List}
 use Prim.Native.Nat.{ℕ, zero, suc, _+_}

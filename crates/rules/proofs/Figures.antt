@@ -1,4 +1,4 @@
--- Document 01, "Figures to hold": P1 to P12 of the definitions, as one list under one theorem; and one small example
+-- docs/RULES.md, section 8: P1 to P12 of the definitions, as one list under one theorem; and one small example
 -- for each of the "slips that look right" that the figures do not reach. All by computation.
 use mathlib.Core.Path.{_≡_, refl}
 use mathlib.Core.Bool.{true, false}

@@ -1,3 +1,3 @@
--- Theorems about document 01's definitions that stand beside them.
+-- Theorems about the definitions, that stand beside them.
 pub mod Figures
 pub mod Unique

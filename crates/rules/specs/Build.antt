@@ -1,6 +1,6 @@
--- Document 01: building refused writes nothing; else the table is the described one, and numbers past its rows stay
--- unchanged. And what a table must be for its answers to be right, whoever wrote it: its rows are good and hold their
--- points.
+-- docs/RULES.md, section 2.6: building refused writes nothing; else the table is the described one, and numbers past
+-- its rows stay unchanged. And section 2.7, what a table must be for its answers to be right, whoever wrote it: its
+-- rows are good and hold their points.
 use mathlib.Core.Bool.{Bool, true, not, cond, _&&_}
 use mathlib.Core.List.{List, [], _∷_, _++_}
 use mathlib.Core.Option.{Option, none, some}

@@ -1,4 +1,4 @@
--- Document 01 as definitions, in its order. Definitions compute, and none has a bound inside geometry.
+-- The rules of docs/RULES.md as definitions. Definitions compute, and none has a bound inside geometry.
 pub mod Plane
 pub mod Sheet
 pub mod Tree

@@ -1,4 +1,4 @@
--- Document 01, "The plain geometry that decides": the exact tests, and the plain answers over all original segments.
+-- docs/RULES.md, section 3: the exact tests, and the plain answers over all original segments.
 use mathlib.Core.Bool.{Bool, true, false, not, cond, _&&_, _||_}
 use mathlib.Core.List.{List}
 use Prim.Native.Nat.{ℕ, zero, suc}

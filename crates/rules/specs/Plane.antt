@@ -1,4 +1,4 @@
--- Document 01, "The tree", its first paragraph: points, the step u, c and t. Over all of ℤ.
+-- docs/RULES.md, section 2.1: points, the step u, c and t. Over all of ℤ.
 use mathlib.Core.Bool.{Bool, cond, _&&_}
 use lib.IntN.{ℤ, pos, _+ℤ_, _-ℤ_, _*ℤ_}
 use Rattle.rules.specs.declared.Point.{Point}

@@ -1,4 +1,4 @@
--- Document 01, "The written walk": what one visit of NEAR, MEET and IN does, AGREE as a row of NEAR walks, and what
+-- docs/RULES.md, section 4: what one visit of NEAR, MEET and IN does, AGREE as a row of NEAR walks, and what
 -- each question replies, refusals first.
 use mathlib.Core.Bool.{Bool, true, false, not, cond, _&&_, _||_}
 use mathlib.Core.List.{List, [], _∷_, _++_}

@@ -1,4 +1,4 @@
--- What an answer says: the word, visits, refusal number or 0, line A, B or none, and place or 0 of document 01.
+-- docs/RULES.md, section 6: the word, visits, refusal number or 0, line A, B or none, and place or 0 of an answer.
 -- The order in which refusals are checked is the order of a list.
 use mathlib.Core.Bool.{Bool, cond}
 use mathlib.Core.List.{List, [], _∷_}

@@ -1,4 +1,4 @@
--- Document 01, "Numbered refusals": when a row that is read at a visit is good, and the checks before a walk.
+-- docs/RULES.md, section 5: when a row that is read at a visit is good, and the checks before a walk.
 use mathlib.Core.Bool.{Bool, not, cond, _&&_, _||_}
 use mathlib.Core.List.{List, [], _∷_, _++_}
 use Prim.Native.Nat.{ℕ, zero, suc, _+_, _*_, _%_}

@@ -1,5 +1,4 @@
--- Document 01, "What belongs to the work": how points lie in a list, and the sizes. The only place that knows the
--- limits.
+-- docs/RULES.md, section 1: how points lie in a list, and the sizes. The only place that knows the limits.
 use mathlib.Core.Bool.{Bool, _&&_}
 use mathlib.Core.List.{List}
 use Prim.Native.Nat.{ℕ, _+_, _*_, _-_, _/_}

@@ -1,4 +1,4 @@
--- Document 01, "The tree": strip and box, the split, the row, the table in preorder.
+-- docs/RULES.md, section 2: strip and box, the split, the row, the table in preorder.
 use mathlib.Core.Bool.{Bool, cond, _&&_, _||_}
 use mathlib.Core.List.{List, [], _∷_, _++_}
 use Prim.Native.Nat.{ℕ, zero, suc, _+_, _*_, _-_}

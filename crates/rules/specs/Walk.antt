@@ -1,4 +1,4 @@
--- Document 01, "The written walk": the tally, and the walk over whatever one visit does. Each question says what its
+-- docs/RULES.md, section 4.2: the tally, and the walk over whatever one visit does. Each question says what its
 -- visit does (Questions); the answer, the visits, and later a report or the pending rows, are readings of this one
 -- walk.
 use mathlib.Core.Bool.{cond}

@@ -1,5 +1,5 @@
-// Document 01 as definitions (specs/), and the values that its answers are made of. Nothing here computes geometry:
-// the crates above promise `r ≡ definition`, where both sides are the one `Reply`.
+// The rules of docs/RULES.md as definitions (specs/), and the values that answers are made of. Nothing here computes
+// geometry: the crates above promise `r ≡ definition`, where both sides are the one `Reply`.
 ghost use mathlib.Core.Path.{_≡_};
 ghost use Rattle.rules.specs.Reply.{says, disagrees, refuses};
 ghost use Rattle.rules.specs.Walk.{next};

@@ -78,7 +78,7 @@ sayingly s reply =
       speech = Says reply;
     }
 
--- ---- the paper's values of what an outcome says
+-- ---- the definitions' values of what an outcome says
 abbrev pub heard : Speech → Option Reply
 heard Quiet = none
 heard (Says reply) = some reply

@@ -1,4 +1,4 @@
--- What document 01 says of a node's two halves, read from the table: the left child's row is the next, the right
+-- What the rules say of a node's two halves, read from the table: the left child's row is the next, the right
 -- child's 2*(split - first) rows on, both halves share the split point, and no child's row reaches 2n-1.
 use mathlib.Core.Path.{_≡_, refl, sym, _∙_}
 use mathlib.Core.List.{List, _++_}

@@ -1,4 +1,4 @@
--- Document 01: "the run of its points is handed on as a part starting in the middle of the line". What is measured of
+-- The run of a node's points is handed on as a part that starts in the middle of the line. What is measured of
 -- the part alone, its points counted from 0, is what is measured of the run: the split, the strip and the box.
 use mathlib.Core.Path.{_≡_, refl, sym, ap, subst, _∙_}
 use mathlib.Core.Bool.{Bool, cond, _&&_, _||_}

@@ -1,4 +1,4 @@
--- The split rule of document 01: the split that is found by going through the inner points in order is the best of
+-- The split rule: the split that is found by going through the inner points in order is the best of
 -- them. A point better than the best so far is as good as all before it; any other leaves the best where it is.
 use mathlib.Core.Path.{_≡_, sym, subst, _∙_}
 use mathlib.Core.Bool.{not, _&&_, _||_}

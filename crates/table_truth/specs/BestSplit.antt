@@ -1,5 +1,5 @@
--- Document 01's split rule, as what holds of the split s of a node: it is an inner point, and no inner point i is
--- better.
+-- The split rule (docs/RULES.md, section 2.3), as what holds of the split s of a node: it is an inner point, and no
+-- inner point i is better.
 use mathlib.Core.Path.{_≡_}
 use mathlib.Core.List.{List}
 use Prim.Native.Nat.{ℕ, _≤_, _<_}

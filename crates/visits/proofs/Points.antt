@@ -1,4 +1,4 @@
--- Points in the checker: a point of terms, document 01's step, c, t and |u|² of such, and the checkers of `integers`
+-- Points in the checker: a point of terms, the rules' step, c, t and |u|² of such, and the checkers of `integers`
 -- for claims about n points and then m numbers, the parameters of a λ. And when two points are one.
 use mathlib.Core.Path.{_≡_}
 use mathlib.Core.List.{List, [], _∷_}

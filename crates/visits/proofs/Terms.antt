@@ -1,4 +1,4 @@
--- Document 01's c, t and |u|² as terms of the checker; and c and t are 0 at the start.
+-- The rules' c, t and |u|² as terms of the checker; and c and t are 0 at the start.
 use mathlib.Core.Path.{_≡_}
 use lib.IntN.{pos}
 use Rattle.integers.specs.Poly.{Expr, con, _:+_, _:*_, _:-_}

@@ -1,4 +1,4 @@
--- Document 01, "The question program": how a text line is read.
+-- docs/RULES.md, section 7.2: how a text line is read.
 pub mod Fields
 pub mod Numbers
 pub mod Records
