@@ -27,11 +27,12 @@ WORD = re.compile(r"[^\W\d][\w²′⊕<≤-]*")
 PATH = re.compile(r"[\w.-]+(?:/[\w.-]+)+")
 DISTINCT = re.compile(r"[a-zA-Z]-[a-zA-Z\d]|[a-z][A-Z]")  # near-built, nearReply: hardly another word looks so
 SECTION = re.compile(r"RULES\.md,\s+section\s+(\d+(?:\.\d+)?)")
+OWN_SECTION = re.compile(r"section\s+(\d+(?:\.\d+)?)")  # in the rules themselves
 LINK = re.compile(r"\]\(([^)#:\s]+)(?:#[^)]*)?\)")
 
 DECLARED = {
     ".antt": re.compile(
-        r"^\s*(?:(?:abbrev|unfoldable|pub)\s+)*(?:([^\s:(){}]+)\s+:(?=\s|$)|(?:record|data)\s+(\S+))", re.M
+        r"^\s*(?:(?:abbrev|unfoldable|pub)\s+)*(?:([^\s:(){}]+)\s+:(?=\s|$)|(?:record|data)\s+([^\s{]+))", re.M
     ),
     ".rt": re.compile(
         r"^\s*(?:pub\s+)?(?:(?:extern \"C\"\s+)?(?:fn|struct|enum|const|mod)\s+(\w+)|([A-Z]\w*)(?=[,({]|\s\{))", re.M
@@ -39,9 +40,13 @@ DECLARED = {
 }
 
 
-def declared(path, text):
+def read(path):
+    return path.read_text(encoding="utf-8")
+
+
+def declared(path):
     """The names that a file declares."""
-    text = re.sub(r"(?m)(?:--|//)\s.*$", "", text)
+    text = re.sub(r"(?m)(?:--|//)\s.*$", "", read(path))
     return {one or other for one, other in DECLARED[path.suffix].findall(text)}
 
 
@@ -49,7 +54,7 @@ def read_sources():
     """The names of each file below crates/, but for the wrong programs."""
     paths = [p for kind in ("antt", "rt") for p in (ROOT / "crates").glob(f"*/*/**/*.{kind}")]
     named = {p.relative_to(ROOT / "crates").as_posix(): p for p in paths}
-    return {name: declared(p, p.read_text()) for name, p in named.items() if "/must-fail/" not in name}
+    return {name: declared(p) for name, p in named.items() if "/must-fail/" not in name}
 
 
 class Check:
@@ -143,10 +148,10 @@ def sections(text):
     return set(re.findall(r"^#{2,3} (\d+(?:\.\d+)?)", text, re.M))
 
 
-def wrong_sections(text, known):
-    """Citations of a section of the rules that there is none of, over the ends of lines and of comment lines."""
-    flat = re.sub(r"\n\s*(?:--|//[!/]?|#|\*)?", " ", text)
-    return [s for s in SECTION.findall(flat) if s not in known], len(SECTION.findall(flat))
+def wrong_sections(text, known, section=SECTION):
+    """How many sections of the rules are cited, and those that they have not; a citation may go over comment lines."""
+    cited = section.findall(re.sub(r"\n\s*(?:--|//[!/]?|#|\*)?", " ", text))
+    return [s for s in cited if s not in known], len(cited)
 
 
 def texts():
@@ -156,28 +161,30 @@ def texts():
         inner[:] = [name for name in inner if name not in ("target", ".git")]
         for path in (Path(folder, name) for name in files):
             if path.suffix in kinds:
-                yield path, path.read_text()
+                yield path, read(path)
 
 
 def main():
     sources, names, cited, links, wrong = read_sources(), 0, 0, 0, []
+    rules, itself = ROOT / "docs/RULES.md", Path(__file__).resolve()
     for name in NAMING + MENTIONING:
-        check = Check((ROOT / name).read_text(), sources, name in NAMING).run()
+        check = Check(read(ROOT / name), sources, name in NAMING).run()
         names += check.checked
         wrong += [f"{name}:{line}: {what}" for line, what in check.wrong]
-    known = sections((ROOT / "docs/RULES.md").read_text())
+    known = sections(read(rules))
     for path, text in texts():
         name = path.relative_to(ROOT)
-        missing, count = wrong_sections(text, known) if path != Path(__file__).resolve() else ([], 0)
-        cited += count
-        wrong += [f"{name}: docs/RULES.md has no section {s}" for s in missing]
+        if path != itself:
+            missing, count = wrong_sections(text, known, OWN_SECTION if path == rules else SECTION)
+            cited += count
+            wrong += [f"{name}: docs/RULES.md has no section {s}" for s in missing]
         for link in LINK.findall(text) if path.suffix == ".md" else []:
             links += 1
             if not (path.parent / link).exists():
                 wrong.append(f"{name}: no file {link}")
-    wrong.append(f"names: {names} names and files, {cited} sections and {links} links cited, {len(wrong)} of them wrong")
-    print("\n".join(wrong))
-    return 1 if wrong[1:] else 0
+    counted = f"{names} names and files, {cited} sections and {links} links"
+    print("\n".join(wrong + [f"names: {counted} cited, {len(wrong)} wrong"]))
+    return 1 if wrong else 0
 
 
 def self_test():

@@ -582,7 +582,7 @@ mod tests {
     }
 
     #[test]
-    fn hard_points_of_the_design_are_decided_exactly() {
+    fn hard_points_are_decided_exactly() {
         let cases = [
             (
                 [-12782, 383, -10910, -1255],
