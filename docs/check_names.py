@@ -7,7 +7,7 @@
 A name is what stands in backticks. Where files follow it in parentheses, below crates/, one of them declares it:
 `good` (rules/specs/Rows.antt). In a table with a row "file" the name is declared in the file of its column. Any other
 name is declared somewhere below crates/, `crate::function` in that crate, and a path leads to a file. A citation
-"RULES.md, section 4.2" has its heading.
+"RULES.md, section 4.2" has its heading, and no file cites a numbered document that the repository does not have.
 """
 import os
 import re
@@ -28,6 +28,7 @@ PATH = re.compile(r"[\w.-]+(?:/[\w.-]+)+")
 DISTINCT = re.compile(r"[a-zA-Z]-[a-zA-Z\d]|[a-z][A-Z]")  # near-built, nearReply: hardly another word looks so
 SECTION = re.compile(r"RULES\.md,\s+section\s+(\d+(?:\.\d+)?)")
 OWN_SECTION = re.compile(r"section\s+(\d+(?:\.\d+)?)")  # in the rules themselves
+ELSEWHERE = re.compile(r"\bdocument \d\d\b", re.I)  # a paper that the repository does not have
 LINK = re.compile(r"\]\(([^)#:\s]+)(?:#[^)]*)?\)")
 
 DECLARED = {
@@ -178,6 +179,7 @@ def main():
             missing, count = wrong_sections(text, known, OWN_SECTION if path == rules else SECTION)
             cited += count
             wrong += [f"{name}: docs/RULES.md has no section {s}" for s in missing]
+            wrong += [f"{name}: cites {paper}, which is not here" for paper in ELSEWHERE.findall(text)]
         for link in LINK.findall(text) if path.suffix == ".md" else []:
             links += 1
             if not (path.parent / link).exists():
@@ -208,6 +210,7 @@ def self_test():
     known = sections("## 4. The walks\n### 4.2 Visits\n")
     assert wrong_sections("RULES.md, section 4.2 and RULES.md,\n-- section 4.9", known) == (["4.9"], 2)
     assert wrong_sections("docs/RULES.md, section 4.", known) == ([], 1)
+    assert ELSEWHERE.findall("by Document 07, in the documents 3 and 12") == ["Document 07"]
     print("names: each wrong one that was made up is found")
     return 0
 
