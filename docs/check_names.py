@@ -103,7 +103,8 @@ class Check:
                 self.fault(at, f"no function `{span}`")
         if PATH.fullmatch(span) and not span.startswith("target/"):
             self.checked += 1
-            if not ((ROOT / span).exists() or (ROOT / "crates" / span).exists()):
+            here = (ROOT / span).exists() or (ROOT / "crates" / span).exists()
+            if not here and not any(f.endswith("/" + span) for f in self.sources):
                 self.fault(at, f"no file {span}")
         if function or "/" in span or not (self.naming or WORD.fullmatch(span)):
             return
