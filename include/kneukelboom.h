@@ -55,6 +55,20 @@
 extern "C" {
 #endif
 
+/*
+ * The version of this interface. The symbol of each call ends in it, so that this header with an archive of another
+ * version fails to link, instead of reading other rows. It rises when rows, limits, replies or calls change so that a
+ * program compiled before would read something else; what is only added leaves it as it is.
+ */
+#define KNEUKELBOOM_VERSION 1
+#define KNEUKELBOOM_PASTED(call, version) call##_v##version
+#define KNEUKELBOOM_SYMBOL(call, version) KNEUKELBOOM_PASTED(call, version)
+#define kneukelboom_build KNEUKELBOOM_SYMBOL(kneukelboom_build, KNEUKELBOOM_VERSION)
+#define kneukelboom_near KNEUKELBOOM_SYMBOL(kneukelboom_near, KNEUKELBOOM_VERSION)
+#define kneukelboom_inside KNEUKELBOOM_SYMBOL(kneukelboom_inside, KNEUKELBOOM_VERSION)
+#define kneukelboom_meet KNEUKELBOOM_SYMBOL(kneukelboom_meet, KNEUKELBOOM_VERSION)
+#define kneukelboom_agree KNEUKELBOOM_SYMBOL(kneukelboom_agree, KNEUKELBOOM_VERSION)
+
 /* Sizes: points of a line, coordinates -16,383 to 16,383, distance 0 to 32,767. */
 #define KNEUKELBOOM_FEWEST_POINTS 2
 #define KNEUKELBOOM_MOST_POINTS 4097

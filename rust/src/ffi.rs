@@ -15,6 +15,7 @@
 use crate::lent::Reply;
 
 extern "C" {
+    #[link_name = "kneukelboom_build_v1"]
     fn kneukelboom_build(
         points: *const i32,
         points_len: usize,
@@ -22,6 +23,7 @@ extern "C" {
         table_len: usize,
     ) -> Reply;
 
+    #[link_name = "kneukelboom_near_v1"]
     fn kneukelboom_near(
         points: *const i32,
         points_len: usize,
@@ -33,6 +35,7 @@ extern "C" {
         allowance: u32,
     ) -> Reply;
 
+    #[link_name = "kneukelboom_inside_v1"]
     fn kneukelboom_inside(
         points: *const i32,
         points_len: usize,
@@ -43,6 +46,7 @@ extern "C" {
         allowance: u32,
     ) -> Reply;
 
+    #[link_name = "kneukelboom_meet_v1"]
     fn kneukelboom_meet(
         points_a: *const i32,
         points_a_len: usize,
@@ -55,6 +59,7 @@ extern "C" {
         allowance: u32,
     ) -> Reply;
 
+    #[link_name = "kneukelboom_agree_v1"]
     fn kneukelboom_agree(
         points_a: *const i32,
         points_a_len: usize,

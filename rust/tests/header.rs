@@ -16,9 +16,11 @@ struct Named {
     of: String,
 }
 
+/// A function: the name that people call, and its symbol in the archive, which ends in the version.
 #[derive(Clone, PartialEq, Eq, Debug)]
 struct Function {
     name: String,
+    symbol: String,
     parameters: Vec<Named>,
 }
 
@@ -40,7 +42,8 @@ impl fmt::Display for Interface {
         };
         writeln!(f, "reply {{ {} }}", list(&self.reply))?;
         for function in &self.functions {
-            writeln!(f, "{}({})", function.name, list(&function.parameters))?;
+            let Function { name, symbol, .. } = function;
+            writeln!(f, "{name}, {symbol}({})", list(&function.parameters))?;
         }
         Ok(())
     }
@@ -190,6 +193,7 @@ fn function<'a>(text: &'a str, reply: &str) -> Result<(Function, &'a str), Strin
         .ok_or(format!("{name} does not return {reply}"))?;
     let function = Function {
         name: name.to_string(),
+        symbol: name.to_string(),
         parameters: colon_list(list)?,
     };
     Ok((function, rest))
@@ -207,7 +211,7 @@ fn rattle(text: &str) -> Read {
         .max(text.matches("#[no_mangle]").count());
     for after in text.split("#[no_mangle]").skip(1) {
         let marked = after.trim_start().strip_prefix("pub extern \"C\" fn ");
-        let (function, rest) = function(
+        let (mut function, rest) = function(
             marked.ok_or("#[no_mangle] without pub extern \"C\" fn")?,
             &name,
         )?;
@@ -215,6 +219,8 @@ fn rattle(text: &str) -> Read {
         if own.contains("requires") {
             return Err(format!("{} has a requires", function.name));
         }
+        let (name, _) = function.name.rsplit_once("_v").ok_or("no version")?;
+        function.name = name.to_string();
         functions.push(function);
     }
     if functions.len() != exports {
@@ -230,8 +236,13 @@ fn rust(text: &str) -> Read {
     let (_, block) = text.split_once("extern \"C\" {").ok_or("no extern block")?;
     let (block, _) = block.split_once('}').ok_or("no end of the extern block")?;
     let mut functions = Vec::new();
-    for declared in block.split("fn ").skip(1) {
-        functions.push(function(declared, &name)?.0);
+    for declared in block.split("#[link_name").skip(1) {
+        let (named, declared) = declared
+            .split_once("fn ")
+            .ok_or("no fn after #[link_name")?;
+        let mut function = function(declared, &name)?.0;
+        function.symbol = named.split('"').nth(1).unwrap_or("").to_string();
+        functions.push(function);
     }
     interface(reply, functions)
 }
@@ -262,6 +273,11 @@ fn c_list(list: &str, mark: char) -> Result<Vec<Named>, String> {
 /// What the header declares, its enums left out.
 fn header(text: &str) -> Read {
     let text = without_comments(text);
+    let version = number_of(&text, "KNEUKELBOOM_VERSION");
+    let versioned = |call: &str| {
+        let of = format!("KNEUKELBOOM_SYMBOL({call}, KNEUKELBOOM_VERSION)");
+        text.contains(&format!("#define {call} {of}\n"))
+    };
     let mut spliced = text.replace("\\\n", " ");
     spliced = spliced
         .lines()
@@ -284,8 +300,13 @@ fn header(text: &str) -> Read {
         if !left.trim().is_empty() {
             return Err(format!("not understood: {left}"));
         }
+        let name = own.split('(').next().unwrap_or("").trim();
+        if !versioned(name) {
+            return Err(format!("the symbol of {name} has no version"));
+        }
         functions.push(Function {
-            name: own.split('(').next().unwrap_or("").trim().to_string(),
+            name: name.to_string(),
+            symbol: format!("{name}_v{version}"),
             parameters: c_list(list, ',')?,
         });
         rest = after.trim();
@@ -295,7 +316,10 @@ fn header(text: &str) -> Read {
 
 /// The numbers that the header gives to its names.
 fn header_number(name: &str) -> u64 {
-    let text = without_comments(&header_text());
+    number_of(&without_comments(&header_text()), name)
+}
+
+fn number_of(text: &str, name: &str) -> u64 {
     let mut words = text
         .split(|c: char| !c.is_alphanumeric() && c != '_')
         .filter(|w| !w.is_empty());
@@ -440,7 +464,7 @@ pub struct Reply {
 }
 
 #[no_mangle]
-pub extern "C" fn kneukelboom_build(points: &[i32], table: &mut [i32]) -> Reply
+pub extern "C" fn kneukelboom_build_v1(points: &[i32], table: &mut [i32]) -> Reply
     ensures { λ r. ⌜ r ≡ said (now (points .entry)) ⌝ }
 {
     told(points, table)
@@ -453,15 +477,15 @@ fn told(points: &[i32]) -> Reply
 }
 
 #[no_mangle]
-pub extern "C" fn kneukelboom_near(points: &[i32], table: &[i32], x: i64, y: i64, distance: i64, allowance: u32) -> Reply {
+pub extern "C" fn kneukelboom_near_v1(points: &[i32], table: &[i32], x: i64, y: i64, distance: i64, allowance: u32) -> Reply {
     told(points, table)
 }
 
 #[no_mangle]
-pub extern "C" fn kneukelboom_inside(points: &[i32], table: &[i32], x: i64, y: i64, allowance: u32) -> Reply { told(points) }
+pub extern "C" fn kneukelboom_inside_v1(points: &[i32], table: &[i32], x: i64, y: i64, allowance: u32) -> Reply { told(points) }
 
 #[no_mangle]
-pub extern "C" fn kneukelboom_meet(
+pub extern "C" fn kneukelboom_meet_v1(
     points_a: &[i32],
     table_a: &[i32],
     points_b: &[i32],
@@ -472,7 +496,7 @@ pub extern "C" fn kneukelboom_meet(
 }
 
 #[no_mangle]
-pub extern "C" fn kneukelboom_agree(
+pub extern "C" fn kneukelboom_agree_v1(
     points_a: &[i32],
     table_a: &[i32],
     points_b: &[i32],
@@ -511,7 +535,9 @@ fn altered_rattle_is_found_out() {
             ("table: &[i32]", "table: &mut [i32]"),
             ("points: &[i32], table", "points: &[u32], table"),
             ("distance: i64, ", ""),
-            ("kneukelboom_meet", "kneukelboom_meets"),
+            ("kneukelboom_meet_v1", "kneukelboom_meets_v1"),
+            ("kneukelboom_meet_v1", "kneukelboom_meet_v2"),
+            ("kneukelboom_meet_v1", "kneukelboom_meet"),
             ("#[no_mangle]\n", ""),
             ("#[no_mangle]\npub extern", "#[no_mangle]\nextern"),
             ("    ensures {", "    requires { ⌜ 1 ≤ 2 ⌝ }\n    ensures {"),
@@ -545,6 +571,15 @@ fn altered_header_is_found_out() {
             (
                 "kneukelboom_reply kneukelboom_meet(",
                 "uint32_t kneukelboom_meet(",
+            ),
+            (
+                "#define KNEUKELBOOM_VERSION 1",
+                "#define KNEUKELBOOM_VERSION 2",
+            ),
+            ("#define kneukelboom_meet ", "#define kneukelboom_meets "),
+            (
+                "KNEUKELBOOM_SYMBOL(kneukelboom_meet,",
+                "KNEUKELBOOM_SYMBOL(kneukelboom_near,",
             ),
             ("int64_t x, int64_t y,", "uint64_t x, int64_t y,"),
             (
@@ -595,6 +630,8 @@ fn altered_rust_is_found_out() {
                 "points_len: u32,\n        table",
             ),
             ("fn kneukelboom_meet(", "fn kneukelboom_meets("),
+            ("\"kneukelboom_meet_v1\"", "\"kneukelboom_meet_v2\""),
+            ("\"kneukelboom_meet_v1\"", "\"kneukelboom_near_v1\""),
             ("    pub visits: u32,", "    pub visits: u64,"),
             ("#[repr(C)]", ""),
         ],

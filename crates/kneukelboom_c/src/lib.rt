@@ -76,7 +76,7 @@ fn written() -> KneukelboomReply
 }
 
 #[no_mangle]
-pub extern "C" fn kneukelboom_build(points: &[i32], table: &mut [i32]) -> KneukelboomReply
+pub extern "C" fn kneukelboom_build_v1(points: &[i32], table: &mut [i32]) -> KneukelboomReply
     ensures { λ r. ⌜ r ≡ codedBuild (buildRefusal (now (points .entry)) (now (table .entry))) ⌝ }
     ensures { λ _. ⌜ now (table .exit) ≡ builtTable (now (points .entry)) (now (table .entry)) ⌝ }
 {
@@ -87,7 +87,7 @@ pub extern "C" fn kneukelboom_build(points: &[i32], table: &mut [i32]) -> Kneuke
 }
 
 #[no_mangle]
-pub extern "C" fn kneukelboom_near(
+pub extern "C" fn kneukelboom_near_v1(
     points: &[i32],
     table: &[i32],
     x: i64,
@@ -102,7 +102,7 @@ pub extern "C" fn kneukelboom_near(
 }
 
 #[no_mangle]
-pub extern "C" fn kneukelboom_inside(
+pub extern "C" fn kneukelboom_inside_v1(
     points: &[i32],
     table: &[i32],
     x: i64,
@@ -116,7 +116,7 @@ pub extern "C" fn kneukelboom_inside(
 }
 
 #[no_mangle]
-pub extern "C" fn kneukelboom_meet(
+pub extern "C" fn kneukelboom_meet_v1(
     points_a: &[i32],
     table_a: &[i32],
     points_b: &[i32],
@@ -130,7 +130,7 @@ pub extern "C" fn kneukelboom_meet(
 }
 
 #[no_mangle]
-pub extern "C" fn kneukelboom_agree(
+pub extern "C" fn kneukelboom_agree_v1(
     points_a: &[i32],
     table_a: &[i32],
     points_b: &[i32],

@@ -6,8 +6,8 @@ use Rattle.rules.specs.Build.{buildRefusal}
 use Rattle.rules.specs.Reply.{builtRefusal}
 use Rattle.kneukelboom_c.specs.Codes.{coded, codedBuild}
 use borrow.Author.Needs.{needs}
-use Rattle.kneukelboom_c.proofs.kneukelboom_build.Statement.{statement}
-use Rattle.kneukelboom_c.proofs.kneukelboom_build.Tie as tie
+use Rattle.kneukelboom_c.proofs.kneukelboom_build_v1.Statement.{statement}
+use Rattle.kneukelboom_c.proofs.kneukelboom_build_v1.Tie as tie
 
 -- what the build answered, in numbers
 told : (c : tie.After-build) {b : Built} → c .build .result ≡ b
@@ -26,8 +26,8 @@ returns-2 c =
     let b = k .before .before .before in
     (c .coded .ensures ∙ ap coded (c .before .refuses .ensures) ∙ told b (k .refusal .given .1), b .build .ensures .1)
 
-pub kneukelboom-build-spec : {M : Type 1} → statement M
-kneukelboom-build-spec =
+pub kneukelboom-build-v1-spec : {M : Type 1} → statement M
+kneukelboom-build-v1-spec =
     tie.close (tie.spec
     (search needs) (search needs) (search needs) (search needs) (search needs) (search needs) (search needs)
     returns (search needs) returns-2)

@@ -4,8 +4,8 @@ use mir.Syntax.{w64}
 use mir.Facts.{toZ-ofZ}
 use Rattle.kneukelboom_c.specs.Codes.{coded}
 use borrow.Author.Needs.{needs}
-use Rattle.kneukelboom_c.proofs.kneukelboom_near.Statement.{statement}
-use Rattle.kneukelboom_c.proofs.kneukelboom_near.Tie as tie
+use Rattle.kneukelboom_c.proofs.kneukelboom_near_v1.Statement.{statement}
+use Rattle.kneukelboom_c.proofs.kneukelboom_near_v1.Tie as tie
 
 returns : tie.Need-returns
 returns c =
@@ -15,5 +15,5 @@ returns c =
     (simp (toZ-ofZ {w = w64} (fits .x), toZ-ofZ {w = w64} (fits .y), toZ-ofZ {w = w64} (fits .distance)) at
     (c .before .near .ensures))
 
-pub kneukelboom-near-spec : {M : Type 1} → statement M
-kneukelboom-near-spec = tie.close (tie.spec (search needs) (search needs) returns)
+pub kneukelboom-near-v1-spec : {M : Type 1} → statement M
+kneukelboom-near-v1-spec = tie.close (tie.spec (search needs) (search needs) returns)

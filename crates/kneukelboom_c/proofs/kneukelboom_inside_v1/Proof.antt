@@ -4,8 +4,8 @@ use mir.Syntax.{w64}
 use mir.Facts.{toZ-ofZ}
 use Rattle.kneukelboom_c.specs.Codes.{coded}
 use borrow.Author.Needs.{needs}
-use Rattle.kneukelboom_c.proofs.kneukelboom_inside.Statement.{statement}
-use Rattle.kneukelboom_c.proofs.kneukelboom_inside.Tie as tie
+use Rattle.kneukelboom_c.proofs.kneukelboom_inside_v1.Statement.{statement}
+use Rattle.kneukelboom_c.proofs.kneukelboom_inside_v1.Tie as tie
 
 returns : tie.Need-returns
 returns c =
@@ -13,5 +13,5 @@ returns c =
     c .coded .ensures ∙ ap coded (simp (toZ-ofZ {w = w64} (fits .x), toZ-ofZ {w = w64} (fits .y)) at
     (c .before .inside .ensures))
 
-pub kneukelboom-inside-spec : {M : Type 1} → statement M
-kneukelboom-inside-spec = tie.close (tie.spec (search needs) (search needs) returns)
+pub kneukelboom-inside-v1-spec : {M : Type 1} → statement M
+kneukelboom-inside-v1-spec = tie.close (tie.spec (search needs) (search needs) returns)
