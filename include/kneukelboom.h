@@ -26,7 +26,9 @@
  * near and inside, 2nm-1 for meet, (n+1)(2m-1) + (m+1)(2n-1) for agree; UINT32_MAX is above them all.
  *
  * Nothing is allocated, kept or copied: no heap, no state between calls, so calls may run in several threads at once.
- * Walks and the builder call themselves, at most n deep (meet: n + m).
+ *
+ * Walks and the builder call themselves, and nothing proves that a thread has room for it: see KNEUKELBOOM_STACK_BUILD
+ * and the two after it for what a thread with a small stack must have left.
  *
  * What the caller owes, as for any C function that takes arrays
  *   - A pointer leads to at least as many numbers as the length after it says. It may be null only where that length is
@@ -42,8 +44,9 @@
  *         reply = kneukelboom_near(points, 6, table, KNEUKELBOOM_TABLE_LEN(6), 4, 5, 2, 10);
  *     // reply.word is KNEUKELBOOM_YES, reply.visits is 2
  *
- * To link: `rt staticlib kneukelboom_c` writes target/staticlib/libkneukelboom_c.a (x86-64 Linux), which needs no other
- * library. rust/tests/header.rs holds this file against the proved source, crates/kneukelboom_c/src/lib.rt.
+ * To link: `make` in the repository's root writes an archive and a shared object (x86-64 Linux), which need no other
+ * library; `make install` puts them where `pkg-config --cflags --libs kneukelboom` tells. rust/tests/header.rs holds
+ * this file against the proved source, crates/kneukelboom_c/src/lib.rt.
  */
 #ifndef KNEUKELBOOM_H
 #define KNEUKELBOOM_H
@@ -61,13 +64,13 @@ extern "C" {
  * program compiled before would read something else; what is only added leaves it as it is.
  */
 #define KNEUKELBOOM_VERSION 1
-#define KNEUKELBOOM_PASTED(call, version) call##_v##version
+#define KNEUKELBOOM_PASTED(call, version) call##version
 #define KNEUKELBOOM_SYMBOL(call, version) KNEUKELBOOM_PASTED(call, version)
-#define kneukelboom_build KNEUKELBOOM_SYMBOL(kneukelboom_build, KNEUKELBOOM_VERSION)
-#define kneukelboom_near KNEUKELBOOM_SYMBOL(kneukelboom_near, KNEUKELBOOM_VERSION)
-#define kneukelboom_inside KNEUKELBOOM_SYMBOL(kneukelboom_inside, KNEUKELBOOM_VERSION)
-#define kneukelboom_meet KNEUKELBOOM_SYMBOL(kneukelboom_meet, KNEUKELBOOM_VERSION)
-#define kneukelboom_agree KNEUKELBOOM_SYMBOL(kneukelboom_agree, KNEUKELBOOM_VERSION)
+#define kneukelboom_build KNEUKELBOOM_SYMBOL(kneukelboom_build_v, KNEUKELBOOM_VERSION)
+#define kneukelboom_near KNEUKELBOOM_SYMBOL(kneukelboom_near_v, KNEUKELBOOM_VERSION)
+#define kneukelboom_inside KNEUKELBOOM_SYMBOL(kneukelboom_inside_v, KNEUKELBOOM_VERSION)
+#define kneukelboom_meet KNEUKELBOOM_SYMBOL(kneukelboom_meet_v, KNEUKELBOOM_VERSION)
+#define kneukelboom_agree KNEUKELBOOM_SYMBOL(kneukelboom_agree_v, KNEUKELBOOM_VERSION)
 
 /* Sizes: points of a line, coordinates -16,383 to 16,383, distance 0 to 32,767. */
 #define KNEUKELBOOM_FEWEST_POINTS 2
@@ -79,6 +82,15 @@ extern "C" {
  * numbers, two for a point. */
 #define KNEUKELBOOM_ROW_WIDTH 11
 #define KNEUKELBOOM_TABLE_LEN(points_len) ((points_len) < 4 ? 0 : KNEUKELBOOM_ROW_WIDTH * ((points_len) - 3))
+
+/*
+ * The bytes of stack that a call takes at its deepest, for lines of so many segments: n for build; n for near and
+ * inside, the greater of n and m for agree; n + m for meet. A built tree is that deep only where each of its splits
+ * lies next to an end. Reckoned from the machine code of the archive, not proved.
+ */
+#define KNEUKELBOOM_STACK_BUILD(segments) (256 + 192 * (segments))
+#define KNEUKELBOOM_STACK_WALK(segments) (256 + 160 * (segments))
+#define KNEUKELBOOM_STACK_MEET(segments) (256 + 416 * (segments))
 
 /* What a reply says: `word`. */
 enum {
@@ -100,26 +112,49 @@ enum {
 };
 
 /*
+ * Why a call was refused: `number`. Checked in this order: a build 1 to 6; a question 1, 2, 3, 6 (A wholly, then B),
+ * then 7, 8 (in agree as each point comes up), 9, then 10 and 11 as it walks. Points and rows are counted from 0; the
+ * place is 0 where none is named here. The line is the one whose points or table are at fault: A where a call has one
+ * line; 7, and 8 outside agree, have none. (12 and 13 are the question program's own.)
+ */
+enum {
+    KNEUKELBOOM_REFUSED_ODD_LENGTH = 1,       /* odd length of a points array */
+    KNEUKELBOOM_REFUSED_TOO_FEW_POINTS = 2,   /* fewer than 2 points */
+    KNEUKELBOOM_REFUSED_TOO_MANY_POINTS = 3,  /* more than 4,097 points */
+    KNEUKELBOOM_REFUSED_POINT_OFF_SHEET = 4,  /* build: a coordinate off the sheet; place: the lowest such point */
+    KNEUKELBOOM_REFUSED_EQUAL_NEIGHBOURS = 5, /* build: two neighbours equal (after all of 4); place: the lower point */
+    KNEUKELBOOM_REFUSED_SHORT_TABLE = 6,      /* table shorter than 11 * (2n-1) */
+    KNEUKELBOOM_REFUSED_DISTANCE = 7,         /* distance outside 0 to 32,767 */
+    KNEUKELBOOM_REFUSED_ASKED_OFF_SHEET = 8,  /* asked point off the sheet; place: in agree the point's index, else 0 */
+    KNEUKELBOOM_REFUSED_NO_RING = 9,          /* inside: fewer than 4 points, or first and last differ */
+    KNEUKELBOOM_REFUSED_BAD_ROW = 10,         /* a row that was read at a visit is bad: the table is not this line's;
+                                                 place: the row */
+    KNEUKELBOOM_REFUSED_CHILD_PAST_END = 11   /* a child's row is not below 2n-1 (the checks of 10 leave it no case);
+                                                 place: the parent's row */
+};
+
+/* The sentence of a refusal's number; any other number gets one that says so. */
+static inline const char *kneukelboom_sentence(uint32_t number) {
+    switch (number) {
+    case KNEUKELBOOM_REFUSED_ODD_LENGTH: return "the line has an odd number of coordinates";
+    case KNEUKELBOOM_REFUSED_TOO_FEW_POINTS: return "the line has fewer than 2 points";
+    case KNEUKELBOOM_REFUSED_TOO_MANY_POINTS: return "the line has more than 4,097 points";
+    case KNEUKELBOOM_REFUSED_POINT_OFF_SHEET: return "a point of the line is off the sheet";
+    case KNEUKELBOOM_REFUSED_EQUAL_NEIGHBOURS: return "two neighbouring points of the line are equal";
+    case KNEUKELBOOM_REFUSED_SHORT_TABLE: return "the table of the line is too short for its points";
+    case KNEUKELBOOM_REFUSED_DISTANCE: return "the distance is not from 0 to 32,767";
+    case KNEUKELBOOM_REFUSED_ASKED_OFF_SHEET: return "the asked point is off the sheet";
+    case KNEUKELBOOM_REFUSED_NO_RING:
+        return "the line is no ring: it has fewer than 4 points, or does not end where it begins";
+    case KNEUKELBOOM_REFUSED_BAD_ROW: return "a row of the table of the line is bad";
+    case KNEUKELBOOM_REFUSED_CHILD_PAST_END: return "a row of the table of the line leads past the last row";
+    default: return "no refusal of the library has this number";
+    }
+}
+
+/*
  * What a call answers. `number`, `line` and `place` are 0 but for a refusal, and for agree's no, where `line` and
  * `place` name the first point that is not near the other line.
- *
- * Refusals, in the order checked. Questions check 1, 2, 3, 6 (A wholly, then B), then 7, 8, 9, then walk.
- *
- *   number  when                                                                    place
- *    1      odd length of a points array                                            0
- *    2      fewer than 2 points                                                     0
- *    3      more than 4,097 points                                                  0
- *    4      build: a coordinate off the sheet                                       the lowest such point, from 0
- *    5      build: two neighbours equal (after all of 4)                            the lower point
- *    6      table shorter than 11 * (2n-1)                                          0
- *    7      distance outside 0 to 32,767                                            0
- *    8      asked point off the sheet                                               0, in agree the point's index
- *    9      inside: fewer than 4 points, or first and last differ                   0
- *   10      a row that was read at a visit is bad: the table is not this line's     the row, from 0
- *   11      a child's row is not below 2n-1 (the checks of 10 leave it no case)     the parent's row
- *
- * The line is the one whose points or table are at fault: A where a call has one line; 7, and 8 outside agree, have
- * none.
  */
 typedef struct kneukelboom_reply {
     uint32_t word;   /* KNEUKELBOOM_BUILT to KNEUKELBOOM_REFUSED */

@@ -275,7 +275,7 @@ fn header(text: &str) -> Read {
     let text = without_comments(text);
     let version = number_of(&text, "KNEUKELBOOM_VERSION");
     let versioned = |call: &str| {
-        let of = format!("KNEUKELBOOM_SYMBOL({call}, KNEUKELBOOM_VERSION)");
+        let of = format!("KNEUKELBOOM_SYMBOL({call}_v, KNEUKELBOOM_VERSION)");
         text.contains(&format!("#define {call} {of}\n"))
     };
     let mut spliced = text.replace("\\\n", " ");
@@ -578,8 +578,8 @@ fn altered_header_is_found_out() {
             ),
             ("#define kneukelboom_meet ", "#define kneukelboom_meets "),
             (
-                "KNEUKELBOOM_SYMBOL(kneukelboom_meet,",
-                "KNEUKELBOOM_SYMBOL(kneukelboom_near,",
+                "KNEUKELBOOM_SYMBOL(kneukelboom_meet_v,",
+                "KNEUKELBOOM_SYMBOL(kneukelboom_near_v,",
             ),
             ("int64_t x, int64_t y,", "uint64_t x, int64_t y,"),
             (
