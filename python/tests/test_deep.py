@@ -1,0 +1,67 @@
+"""The deepest trees that the builder writes, asked from threads with little stack. A call that does not fit its thread
+ends this test's whole process."""
+
+import threading
+import unittest
+from unittest import mock
+
+from kneukelboom import Line, stack
+
+
+def comb(count, lift=0):
+    """Strokes from side to side, each shorter than the one before: every split is next to the first point."""
+    return [(i - 2048, (16000 - 3 * i) * (1 if i % 2 == 0 else -1) + lift) for i in range(count)]
+
+
+def on_a_stack_of(kilobytes, work):
+    """What `work` gives on a thread of that size, which is also the size of those that it starts."""
+    given = []
+    usual = threading.stack_size(kilobytes << 10)
+    try:
+        thread = threading.Thread(target=lambda: given.append(work()))
+        thread.start()
+        thread.join()
+        if threading.stack_size() != kilobytes << 10:
+            raise AssertionError("the size of threads that start is another one now")
+    finally:
+        threading.stack_size(usual)
+    return given[0]
+
+
+def asked():
+    """Every call, on trees that are as deep as they can be. The allowance ends walks over all the pairs."""
+    answers = []
+    for turned in 1, -1:
+        a, b = Line(comb(4097)[::turned]), Line(comb(4097, lift=1)[::turned])
+        ring = Line((comb(4096) + comb(1))[::turned])
+        answers += [a._levels(), b._levels(), ring._levels() >= 4094]
+        answers += [a.near((0, 0), 0), ring.side((0, 0)), a.meets(b), a.agrees(b, 1, allowance=100_000)]
+    return answers
+
+
+class Deep(unittest.TestCase):
+    def test_every_call_from_every_thread(self):
+        roomy = on_a_stack_of(64 << 10, asked)
+        self.assertEqual([4096, 4096, True], roomy[:3])
+        for kilobytes in 256, 64:
+            self.assertEqual(roomy, on_a_stack_of(kilobytes, asked))
+
+    def test_ordinary_trees_are_asked_on_the_thread_itself(self):
+        wave = Line([(x, (x * x) % 97) for x in range(4097)])
+        with mock.patch.object(stack, "_on_its_own_thread", side_effect=AssertionError("a thread was started")):
+            self.assertIsNotNone(on_a_stack_of(256, lambda: wave.near((0, 9000), 5)))
+            self.assertIsNotNone(on_a_stack_of(256, lambda: wave.meets(wave)))
+
+    def test_a_thread_of_unknown_size_has_little(self):
+        with mock.patch.object(stack, "_size", return_value=0):
+            self.assertEqual(stack.LITTLE, on_a_stack_of(1024, stack._room))
+
+    def test_a_usual_thread_holds_every_call(self):
+        most = {name: 4096 * (2 if name == "meet" else 1) for name in stack.A_LEVEL}
+        needed = max(stack.ON_TOP + stack.A_LEVEL[name] * levels for name, levels in most.items())
+        self.assertLessEqual(needed, on_a_stack_of(8 << 10, stack._room))
+
+    def test_levels_of_small_trees(self):
+        self.assertEqual(1, Line([(0, 0), (1, 0)])._levels())
+        self.assertEqual(2, Line([(0, 0), (4, 3), (8, 0)])._levels())
+        self.assertEqual(3, Line([(0, 0), (4, 0), (4, 4), (0, 4), (0, 0)])._levels())
