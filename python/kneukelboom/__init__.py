@@ -40,9 +40,9 @@ kneukelboom.Refusal: refused 5: points 1 and 2 of line A are equal
 
 from __future__ import annotations
 
-import ctypes
 import itertools
 import operator
+from array import array
 from functools import partial
 from typing import Any, Callable, Iterable, Iterator, List, Optional, SupportsIndex, Tuple
 
@@ -86,13 +86,14 @@ class Line:
     (True, False)
     """
 
-    __slots__ = ("_depth", "_points", "_table")
+    __slots__ = ("_depth", "_lent", "_points", "_table")
     _depth: int  # of the tree, in levels; 0 until it is reckoned
+    _lent: Tuple[Any, ...]  # points and table as the calls take them
 
     def __init__(self, points: Iterable[Point]) -> None:
         # A line with one point too many is refused, whatever follows.
-        read = itertools.islice(points, MOST_POINTS + 1)
-        self._build([number for index, point in enumerate(read) for number in _pair(f"point {index}", point)])
+        read = enumerate(itertools.islice(points, MOST_POINTS + 1))
+        self._build([number for index, point in read for number in _pair(point, "point", index)])
 
     @classmethod
     def from_numbers(cls, numbers: Iterable[SupportsIndex]) -> Line:
@@ -106,16 +107,17 @@ class Line:
         kneukelboom.Refusal: refused 1: line A has an odd number of coordinates
         """
         line = cls.__new__(cls)
-        line._build([_whole(f"coordinate {index}", number) for index, number in enumerate(numbers)])
+        line._build([_whole(number, "coordinate", index) for index, number in enumerate(numbers)])
         return line
 
     def _build(self, numbers: List[int]) -> None:
         # A line that is too short or too long is refused before its table is looked at: no need for the room.
         segments = len(numbers) // 2 - 1 if FEWEST_POINTS <= len(numbers) // 2 <= MOST_POINTS else 0
-        self._points = (ctypes.c_int32 * len(numbers))(*(_held(number, 32) for number in numbers))
-        self._table = (ctypes.c_int32 * (ROW_WIDTH * max(2 * segments - 1, 0)))()
+        self._points = array("i", (_held(number, 32) for number in numbers))
+        self._table = array("i", [0]) * (ROW_WIDTH * max(2 * segments - 1, 0))
+        self._lent = library.lent(self._points) + library.lent(self._table)
         self._depth = 0
-        library.ask("build", segments, lambda: segments, *self._lent())
+        library.ask("build", segments, lambda: segments, *self._lent)
 
     @property
     def points(self) -> Tuple[Tuple[int, int], ...]:
@@ -129,7 +131,7 @@ class Line:
         >>> Line([(0, 0), (4, 3)]).table
         ((0, 1, -1, 0, 0, 0, 25, 0, 4, 0, 3),)
         """
-        numbers = iter(self._table[:])
+        numbers = iter(self._table)
         return tuple(zip(*[numbers] * ROW_WIDTH))
 
     @property
@@ -148,9 +150,9 @@ class Line:
         >>> line.near((4, 5), distance=2, allowance=1).decided is None
         True
         """
-        asked = _asked(point) + (_held(_whole("the distance", distance), 64),)
+        asked = _asked(point) + (_held(_whole(distance, "the distance"), 64),)
         visits = _allowance(allowance, self.enough_visits)
-        reply = library.ask("near", self.segments, self._levels, *self._lent(), *asked, visits)
+        reply = library.ask("near", self.segments, self._levels, *self._lent, *asked, visits)
         return Answer(Word(reply.word), reply.visits)
 
     def side(self, point: Point, allowance: Optional[SupportsIndex] = None) -> Side:
@@ -170,7 +172,7 @@ class Line:
         """
         asked = _asked(point)
         visits = _allowance(allowance, self.enough_visits)
-        reply = library.ask("inside", self.segments, self._levels, *self._lent(), *asked, visits)
+        reply = library.ask("inside", self.segments, self._levels, *self._lent, *asked, visits)
         return Side(Word(reply.word), reply.visits)
 
     def meets(self, other: Line, allowance: Optional[SupportsIndex] = None) -> Answer:
@@ -187,8 +189,8 @@ class Line:
             "meet",
             self.segments + other.segments,
             lambda: self._levels() + other._levels(),
-            *self._lent(),
-            *other._lent(),
+            *self._lent,
+            *other._lent,
             visits,
         )
         return Answer(Word(reply.word), reply.visits)
@@ -204,14 +206,14 @@ class Line:
         >>> answer.decided, answer.line, answer.point
         (False, 'B', 1)
         """
-        held = _held(_whole("the distance", distance), 64)
+        held = _held(_whole(distance, "the distance"), 64)
         visits = _allowance(allowance, partial(self.enough_to_agree, _other(other)))
         reply = library.ask(
             "agree",
             max(self.segments, other.segments),
             lambda: max(self._levels(), other._levels()),
-            *self._lent(),
-            *other._lent(),
+            *self._lent,
+            *other._lent,
             held,
             visits,
         )
@@ -234,27 +236,24 @@ class Line:
         return len(self._points) // 2
 
     def __iter__(self) -> Iterator[Tuple[int, int]]:
-        numbers = iter(self._points[:])
+        numbers = iter(self._points)
         return zip(numbers, numbers)
 
     def __eq__(self, other: object) -> bool:
         if not isinstance(other, Line):
             return NotImplemented
-        return bytes(self._points) == bytes(other._points)
+        return self._points == other._points
 
     def __hash__(self) -> int:
-        return hash(bytes(self._points))
+        return hash(self._points.tobytes())
 
     def __repr__(self) -> str:
-        x, y, u, v = self._points[:2] + self._points[-2:]
+        x, y, *_, u, v = self._points
         return f"<Line of {len(self)} points, ({x}, {y}) to ({u}, {v})>"
 
     def __reduce__(self) -> Tuple[Any, ...]:
         # A copy is built anew: answers are only as right as a table that the builder wrote.
-        return type(self).from_numbers, (self._points[:],)
-
-    def _lent(self) -> Tuple[Any, ...]:
-        return self._points, len(self._points), self._table, len(self._table)
+        return type(self).from_numbers, (self._points.tolist(),)
 
     def _levels(self) -> int:
         """How many levels the tree has, reckoned once."""
@@ -268,19 +267,19 @@ class Line:
         return self._depth
 
 
-def _whole(what: str, number: SupportsIndex) -> int:
+def _whole(number: SupportsIndex, *what: object) -> int:
     try:
         return operator.index(number)
     except TypeError:
-        raise TypeError(f"{what} is no whole number: {number!r}") from None
+        raise TypeError(f"{' '.join(map(str, what))} is no whole number: {number!r}") from None
 
 
-def _pair(what: str, point: Point) -> Tuple[int, int]:
+def _pair(point: Point, *what: object) -> Tuple[int, int]:
     try:
         x, y = point
         return operator.index(x), operator.index(y)
     except (TypeError, ValueError):
-        raise TypeError(f"{what} is no pair of whole numbers: {point!r}") from None
+        raise TypeError(f"{' '.join(map(str, what))} is no pair of whole numbers: {point!r}") from None
 
 
 def _held(number: int, bits: int) -> int:
@@ -290,7 +289,7 @@ def _held(number: int, bits: int) -> int:
 
 
 def _asked(point: Point) -> Tuple[int, ...]:
-    return tuple(_held(number, 64) for number in _pair("the asked point", point))
+    return tuple(_held(number, 64) for number in _pair(point, "the asked point"))
 
 
 def _other(line: Line) -> Line:
@@ -302,7 +301,7 @@ def _other(line: Line) -> Line:
 def _allowance(given: Optional[SupportsIndex], enough: Callable[[], int]) -> int:
     if given is None:
         return enough()
-    visits = _whole("the allowance", given)
+    visits = _whole(given, "the allowance")
     if not 0 <= visits <= MOST_VISITS:
         raise ValueError(f"the allowance is not from 0 to 4,294,967,295: {visits}")
     return visits

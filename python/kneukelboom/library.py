@@ -5,9 +5,10 @@ from __future__ import annotations
 import ctypes
 import ctypes.util
 import os
+from array import array
 from functools import partial
 from pathlib import Path
-from typing import Any, Callable, Dict, Optional
+from typing import Any, Callable, Dict, Optional, Tuple
 
 from . import stack
 from .refusal import Refusal
@@ -40,6 +41,11 @@ PARAMETERS = {
     "meet": _line * 2 + [ctypes.c_uint32],
     "agree": _line * 2 + [ctypes.c_int64] + [ctypes.c_uint32],
 }
+
+
+def lent(numbers: array[int]) -> Tuple[Any, int]:
+    """An array as the calls take it: where its numbers are, which it keeps for as long, and how many."""
+    return (ctypes.byref(ctypes.c_int32.from_buffer(numbers)) if numbers else None), len(numbers)
 
 
 def ask(name: str, most: int, levels: Callable[[], int], *passed: Any) -> Reply:
