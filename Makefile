@@ -1,7 +1,8 @@
-# The proved library as an archive and a shared object, for x86-64 Linux.
+# The proved library as an archive and a shared object, for x86-64 Linux. Elsewhere, CC is a compiler for it.
 #
-#   make                      target/staticlib/libkneukelboom_c.a, and in target/lib the shared object and kneukelboom.pc
-#   make install PREFIX=..    header, archive, shared object and kneukelboom.pc; `uninstall` takes them away again
+#   make                    target/staticlib/libkneukelboom_c.a, and in target/lib the shared object and kneukelboom.pc
+#   make install PREFIX=..  header, archive, shared object and kneukelboom.pc; `uninstall` takes them away again. The
+#                           loader learns of a shared object in /usr/local/lib by `ldconfig`
 #
 # `rt` proves the library before it writes the archive; an archive that is older than a source is made again.
 PREFIX = /usr/local
@@ -32,7 +33,7 @@ $(OUT)/libkneukelboom.so: $(OUT)/$(SONAME)
 
 # written each time, for it says where the rest is installed
 $(OUT)/kneukelboom.pc: $(HEADER) always
-	@mkdir -p $(OUT)
+	@mkdir -p $(OUT) && rm -f $@
 	@printf '%s\n' \
 	    'includedir=$(abspath $(INCLUDEDIR))' \
 	    'libdir=$(abspath $(LIBDIR))' \

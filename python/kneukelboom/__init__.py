@@ -256,14 +256,16 @@ class Line:
         return type(self).from_numbers, (self._points.tolist(),)
 
     def _levels(self) -> int:
-        """How many levels the tree has, reckoned once."""
+        """How many levels the tree has. It is kept when it is known whole, for other threads may ask meanwhile."""
         if not self._depth:
+            depth = 0
             above: List[int] = []
             for first, last in zip(self._table[0::ROW_WIDTH], self._table[1::ROW_WIDTH]):
                 while above and above[-1] <= first:
                     above.pop()
                 above.append(last)
-                self._depth = max(self._depth, len(above))
+                depth = max(depth, len(above))
+            self._depth = depth
         return self._depth
 
 

@@ -13,19 +13,21 @@ def comb(count, lift=0):
     return [(i - 2048, (16000 - 3 * i) * (1 if i % 2 == 0 else -1) + lift) for i in range(count)]
 
 
-def on_a_stack_of(kilobytes, work):
-    """What `work` gives on a thread of that size, which is also the size of those that it starts."""
+def on_stacks_of(kilobytes, work, threads=1):
+    """What `work` gives on threads of that size, all at once. It is also the size of those that they start."""
     given = []
     usual = threading.stack_size(kilobytes << 10)
     try:
-        thread = threading.Thread(target=lambda: given.append(work()))
-        thread.start()
-        thread.join()
+        started = [threading.Thread(target=lambda: given.append(work())) for _ in range(threads)]
+        for thread in started:
+            thread.start()
+        for thread in started:
+            thread.join()
         if threading.stack_size() != kilobytes << 10:
             raise AssertionError("the size of threads that start is another one now")
     finally:
         threading.stack_size(usual)
-    return given[0]
+    return given
 
 
 def asked():
@@ -41,25 +43,30 @@ def asked():
 
 class Deep(unittest.TestCase):
     def test_every_call_from_every_thread(self):
-        roomy = on_a_stack_of(64 << 10, asked)
+        (roomy,) = on_stacks_of(64 << 10, asked)
         self.assertEqual([4096, 4096, True], roomy[:3])
         for kilobytes in 256, 64:
-            self.assertEqual(roomy, on_a_stack_of(kilobytes, asked))
+            self.assertEqual([roomy], on_stacks_of(kilobytes, asked))
+
+    def test_several_threads_at_once(self):
+        deep = Line(comb(4097)[::-1])
+        answers = on_stacks_of(64, lambda: [deep.near((0, 0), 0) for _ in range(9)], threads=4)
+        self.assertEqual([[deep.near((0, 0), 0)] * 9] * 4, answers)
 
     def test_ordinary_trees_are_asked_on_the_thread_itself(self):
         wave = Line([(x, (x * x) % 97) for x in range(4097)])
         with mock.patch.object(stack, "_on_its_own_thread", side_effect=AssertionError("a thread was started")):
-            self.assertIsNotNone(on_a_stack_of(256, lambda: wave.near((0, 9000), 5)))
-            self.assertIsNotNone(on_a_stack_of(256, lambda: wave.meets(wave)))
+            self.assertEqual([False], on_stacks_of(256, lambda: wave.near((0, 9000), 5).decided))
+            self.assertEqual([True], on_stacks_of(256, lambda: wave.meets(wave).decided))
 
     def test_a_thread_of_unknown_size_has_little(self):
         with mock.patch.object(stack, "_size", return_value=0):
-            self.assertEqual(stack.LITTLE, on_a_stack_of(1024, stack._room))
+            self.assertEqual([stack.LITTLE], on_stacks_of(1024, stack._room))
 
     def test_a_usual_thread_holds_every_call(self):
         most = {name: 4096 * (2 if name == "meet" else 1) for name in stack.A_LEVEL}
         needed = max(stack.ON_TOP + stack.A_LEVEL[name] * levels for name, levels in most.items())
-        self.assertLessEqual(needed, on_a_stack_of(8 << 10, stack._room))
+        self.assertLessEqual(needed, on_stacks_of(8 << 10, stack._room)[0])
 
     def test_levels_of_small_trees(self):
         self.assertEqual(1, Line([(0, 0), (1, 0)])._levels())
