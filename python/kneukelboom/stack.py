@@ -1,7 +1,7 @@
 """Room for the calls, which go as deep as a tree has levels.
 
 Nothing proves that a thread has stack enough, so a call that could take more than half of its thread's is made on a
-thread of its own. Ordinary trees are far from that: a line of 4,097 points is some 20 levels deep, a comb 4,096.
+thread of its own. Ordinary trees are far from that: tens of levels for 4,097 points, where a comb has 4,096.
 """
 
 from __future__ import annotations
