@@ -1,4 +1,5 @@
-//! The only unsafe code of this crate: the five functions of the proved archive, each behind a safe one.
+//! The only unsafe code of this crate: the five functions of the proved archive, each behind a safe one, and what the C
+//! library knows of a thread's stack.
 //!
 //! Why the calls are sound:
 //! - A slice's pointer leads to as many numbers as its length says, is aligned, and is never null. A `&mut`
@@ -9,8 +10,8 @@
 //!   header and `crates/kneukelboom_c/src/lib.rt` against each other.
 //! - A slice passes as pointer and length and the reply by value, by the C calling convention of x86-64.
 //!
-//! What is not proved: that the stack is deep enough. Calls nest at most n deep, n + m for `meet`, with n and
-//! m at most 4,096; `tests/deep.rs` walks the deepest trees on a thread's usual 2 MiB.
+//! What is not proved: that the stack is deep enough. Calls nest at most n deep, n + m for `meet`, with n and m at
+//! most 4,096: no call may be made but through [`room::with`](crate::room::with).
 
 use crate::lent::Reply;
 
@@ -74,8 +75,6 @@ extern "C" {
     ) -> Reply;
 }
 
-/// Writes the table of a line: built, or refused and nothing is written. A table needs
-/// [`table_len`](crate::lent::table_len) numbers; those past them stay unchanged.
 #[inline]
 pub fn build(points: &[i32], table: &mut [i32]) -> Reply {
     // SAFETY: slices, and one of them `&mut`: see the top of this file.
@@ -89,7 +88,6 @@ pub fn build(points: &[i32], table: &mut [i32]) -> Reply {
     }
 }
 
-/// Is (x, y) within the distance of some segment of the line?
 #[inline]
 pub fn near(points: &[i32], table: &[i32], x: i64, y: i64, distance: i64, allowance: u32) -> Reply {
     // SAFETY: slices, only read: see the top of this file.
@@ -107,7 +105,6 @@ pub fn near(points: &[i32], table: &[i32], x: i64, y: i64, distance: i64, allowa
     }
 }
 
-/// On which side of a ring is (x, y)?
 #[inline]
 pub fn inside(points: &[i32], table: &[i32], x: i64, y: i64, allowance: u32) -> Reply {
     // SAFETY: slices, only read: see the top of this file.
@@ -124,7 +121,6 @@ pub fn inside(points: &[i32], table: &[i32], x: i64, y: i64, allowance: u32) -> 
     }
 }
 
-/// Do two lines share a point?
 #[inline]
 pub fn meet(
     points_a: &[i32],
@@ -149,7 +145,6 @@ pub fn meet(
     }
 }
 
-/// Is each point of either line within the distance of the other line?
 #[inline]
 pub fn agree(
     points_a: &[i32],
@@ -173,5 +168,36 @@ pub fn agree(
             distance,
             allowance,
         )
+    }
+}
+
+/// `pthread_attr_t`: 56 bytes on x86-64 Linux, in glibc and in musl, with room to spare.
+#[repr(C, align(16))]
+struct Attributes([u64; 16]);
+
+extern "C" {
+    fn pthread_self() -> usize;
+    fn pthread_getattr_np(thread: usize, attributes: *mut Attributes) -> i32;
+    fn pthread_attr_getstack(
+        attributes: *const Attributes,
+        low: *mut usize,
+        size: *mut usize,
+    ) -> i32;
+    fn pthread_attr_destroy(attributes: *mut Attributes) -> i32;
+}
+
+/// The lowest address and the size of the running thread's stack, if the C library can tell.
+pub fn stack() -> Option<(usize, usize)> {
+    let mut attributes = Attributes([0; 16]);
+    let (mut low, mut size) = (0, 0);
+    // SAFETY: the attributes are read and destroyed only after they have been written, and all three are locals with room
+    // for what is written: an address is as wide as a usize, and so is a `pthread_t`.
+    unsafe {
+        if pthread_getattr_np(pthread_self(), &mut attributes) != 0 {
+            return None;
+        }
+        let told = pthread_attr_getstack(&attributes, &mut low, &mut size);
+        pthread_attr_destroy(&mut attributes);
+        (told == 0).then_some((low, size))
     }
 }

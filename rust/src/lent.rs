@@ -8,6 +8,9 @@
 //! whose rows look good, but whose strips or boxes leave points out, is not found out, and a no or an outside
 //! over it can be false.
 //!
+//! How deep a lent table goes is not known, so room on the stack is asked for the deepest that its line can have:
+//! [Threads and stack](crate#threads-and-stack).
+//!
 //! ```
 //! use kneukelboom::{lent, Answer};
 //!
@@ -25,9 +28,7 @@
 
 use crate::answer::{Agreement, Answer, Side};
 use crate::refusal::{Name, Refusal};
-use crate::ROW_WIDTH;
-
-pub use crate::ffi::{agree, build, inside, meet, near};
+use crate::{ffi, room, MOST_POINTS, ROW_WIDTH};
 
 /// The words of a [`Reply`], as in `kneukelboom.h`.
 pub mod word {
@@ -55,6 +56,80 @@ pub const fn table_len(points_len: usize) -> usize {
     } else {
         ROW_WIDTH * (points_len - 3)
     }
+}
+
+/// Levels that the tree of a line can have: n, and none where the line is refused for its length.
+fn levels(points: &[i32]) -> usize {
+    let points = (points.len() / 2).min(MOST_POINTS);
+    points.saturating_sub(1)
+}
+
+/// Writes the table of a line: built, or refused and nothing is written. A table needs [`table_len`] numbers; those past
+/// them stay unchanged.
+///
+/// # Panics
+/// If a thread is needed and cannot be started: [Threads and stack](crate#threads-and-stack).
+#[inline]
+pub fn build(points: &[i32], table: &mut [i32]) -> Reply {
+    let need = room::build(levels(points));
+    room::with(need, || ffi::build(points, table))
+}
+
+/// Is (x, y) within the distance of some segment of the line?
+///
+/// # Panics
+/// If a thread is needed and cannot be started: [Threads and stack](crate#threads-and-stack).
+#[inline]
+pub fn near(points: &[i32], table: &[i32], x: i64, y: i64, distance: i64, allowance: u32) -> Reply {
+    let need = room::walk(levels(points));
+    room::with(need, || ffi::near(points, table, x, y, distance, allowance))
+}
+
+/// On which side of a ring is (x, y)?
+///
+/// # Panics
+/// If a thread is needed and cannot be started: [Threads and stack](crate#threads-and-stack).
+#[inline]
+pub fn inside(points: &[i32], table: &[i32], x: i64, y: i64, allowance: u32) -> Reply {
+    let need = room::walk(levels(points));
+    room::with(need, || ffi::inside(points, table, x, y, allowance))
+}
+
+/// Do two lines share a point?
+///
+/// # Panics
+/// If a thread is needed and cannot be started: [Threads and stack](crate#threads-and-stack).
+#[inline]
+pub fn meet(
+    points_a: &[i32],
+    table_a: &[i32],
+    points_b: &[i32],
+    table_b: &[i32],
+    allowance: u32,
+) -> Reply {
+    let need = room::meet(levels(points_a) + levels(points_b));
+    room::with(need, || {
+        ffi::meet(points_a, table_a, points_b, table_b, allowance)
+    })
+}
+
+/// Is each point of either line within the distance of the other line?
+///
+/// # Panics
+/// If a thread is needed and cannot be started: [Threads and stack](crate#threads-and-stack).
+#[inline]
+pub fn agree(
+    points_a: &[i32],
+    table_a: &[i32],
+    points_b: &[i32],
+    table_b: &[i32],
+    distance: i64,
+    allowance: u32,
+) -> Reply {
+    let need = room::walk(levels(points_a).max(levels(points_b)));
+    room::with(need, || {
+        ffi::agree(points_a, table_a, points_b, table_b, distance, allowance)
+    })
 }
 
 /// What a call answers, in plain numbers; the methods read it as an enum.

@@ -36,13 +36,35 @@
 //! ```
 //!
 //! [`lent`] has the same calls over slices that the caller lends: no heap, nothing copied.
+//!
+//! # Threads and stack
+//!
+//! Lines may be asked from several threads at once. No call overflows a stack: each knows what it can need, and where
+//! that is more than the running thread has left, it is made on a thread of its own, which is started and joined within
+//! the call. The answer is the same. That is for lines whose trees are hundreds of levels deep, as combs and spirals
+//! can be; the tree of a survey has some tens. A call that needs a thread which cannot be started panics.
+//!
+//! | call | bytes | with trees of 30 levels | at most |
+//! |---|---|---|---|
+//! | [`near`](Line::near), [`inside`](Line::inside), [`agrees`](Line::agrees) | 256 + 160 a level | 5 KB | 656 KB |
+//! | [`meets`](Line::meets) | 256 + 416 a level of both | 25 KB | 3.4 MB |
+//! | building | 256 + 192 a segment | | 787 KB |
+//! | [`lent`] | as above, a segment for a level | | |
+//!
+//! An eighth of the running thread's stack, and at least 16 KB, is left free. On a stack that is not the thread's own (a
+//! coroutine's) nothing is known of the room, and every call is made on a thread of its own.
 #![deny(unsafe_code)]
+
+// Tests of this crate's own share shapes with those beside it, which know it by its name.
+#[cfg(test)]
+extern crate self as kneukelboom;
 
 mod answer;
 #[allow(unsafe_code)]
 mod ffi;
 pub mod lent;
 mod refusal;
+mod room;
 
 pub use answer::{Agreement, Answer, Side};
 pub use refusal::{Name, Refusal};
@@ -76,6 +98,8 @@ pub struct Line {
     /// x, y, x, y
     points: Vec<i32>,
     table: Vec<i32>,
+    /// Of the tree: how many rows lie on its longest way down.
+    levels: usize,
 }
 
 impl Line {
@@ -89,6 +113,9 @@ impl Line {
     /// assert_eq!((refusal.number, refusal.place), (5, 1));
     /// assert_eq!(refusal.to_string(), "refused 5: points 1 and 2 of line A are equal");
     /// ```
+    ///
+    /// # Panics
+    /// If a thread is needed and cannot be started: [Threads and stack](crate#threads-and-stack).
     pub fn new(points: &[(i32, i32)]) -> Result<Line, Refusal> {
         Line::from_numbers(points.iter().flat_map(|&(x, y)| [x, y]).collect())
     }
@@ -101,12 +128,20 @@ impl Line {
     /// assert_eq!(Line::from_numbers(vec![0, 0, 4]).unwrap_err().number, 1);
     /// # Ok::<(), kneukelboom::Refusal>(())
     /// ```
+    ///
+    /// # Panics
+    /// If a thread is needed and cannot be started: [Threads and stack](crate#threads-and-stack).
     pub fn from_numbers(points: Vec<i32>) -> Result<Line, Refusal> {
         // A line that is too long is refused before its table is looked at: no need for the room.
         let most = lent::table_len(2 * MOST_POINTS);
         let mut table = vec![0; lent::table_len(points.len()).min(most)];
         lent::build(&points, &mut table).built()?;
-        Ok(Line { points, table })
+        let levels = levels(&table);
+        Ok(Line {
+            points,
+            table,
+            levels,
+        })
     }
 
     /// The coordinates, x, y, x, y.
@@ -136,6 +171,9 @@ impl Line {
     /// assert_eq!(line.near((4, 5), 2, 1)?.decided(), None);
     /// # Ok::<(), kneukelboom::Refusal>(())
     /// ```
+    ///
+    /// # Panics
+    /// If a thread is needed and cannot be started: [Threads and stack](crate#threads-and-stack).
     pub fn near(
         &self,
         point: (i32, i32),
@@ -143,7 +181,9 @@ impl Line {
         allowance: u32,
     ) -> Result<Answer, Refusal> {
         let (x, y) = (point.0.into(), point.1.into());
-        lent::near(&self.points, &self.table, x, y, distance.into(), allowance).answer()
+        let distance = distance.into();
+        let near = || ffi::near(&self.points, &self.table, x, y, distance, allowance);
+        room::with(room::walk(self.levels), near).answer()
     }
 
     /// On which side of this ring is a point?
@@ -159,9 +199,13 @@ impl Line {
     /// assert_eq!(square.inside((5, 2), 9)?, Side::Outside { visits: 1 });
     /// # Ok::<(), kneukelboom::Refusal>(())
     /// ```
+    ///
+    /// # Panics
+    /// If a thread is needed and cannot be started: [Threads and stack](crate#threads-and-stack).
     pub fn inside(&self, point: (i32, i32), allowance: u32) -> Result<Side, Refusal> {
         let (x, y) = (point.0.into(), point.1.into());
-        lent::inside(&self.points, &self.table, x, y, allowance).side()
+        let inside = || ffi::inside(&self.points, &self.table, x, y, allowance);
+        room::with(room::walk(self.levels), inside).side()
     }
 
     /// Do this line (A) and another (B) share a point, ends, touches and overlaps included?
@@ -177,15 +221,20 @@ impl Line {
     /// assert_eq!(line.meets(&long, 9)?, Answer::Yes { visits: 2 });
     /// # Ok::<(), kneukelboom::Refusal>(())
     /// ```
+    ///
+    /// # Panics
+    /// If a thread is needed and cannot be started: [Threads and stack](crate#threads-and-stack).
     pub fn meets(&self, other: &Line, allowance: u32) -> Result<Answer, Refusal> {
-        lent::meet(
-            &self.points,
-            &self.table,
-            &other.points,
-            &other.table,
-            allowance,
-        )
-        .answer()
+        let meet = || {
+            ffi::meet(
+                &self.points,
+                &self.table,
+                &other.points,
+                &other.table,
+                allowance,
+            )
+        };
+        room::with(room::meet(self.levels + other.levels), meet).answer()
     }
 
     /// Is each point of this line (A) within the distance of another (B), and each point of B within it of A?
@@ -205,21 +254,26 @@ impl Line {
     /// assert_eq!(stub.agrees(&long, 90, 9)?, Agreement::Yes { visits: 4 });
     /// # Ok::<(), kneukelboom::Refusal>(())
     /// ```
+    ///
+    /// # Panics
+    /// If a thread is needed and cannot be started: [Threads and stack](crate#threads-and-stack).
     pub fn agrees(
         &self,
         other: &Line,
         distance: i32,
         allowance: u32,
     ) -> Result<Agreement, Refusal> {
-        lent::agree(
-            &self.points,
-            &self.table,
-            &other.points,
-            &other.table,
-            distance.into(),
-            allowance,
-        )
-        .agreement()
+        let agree = || {
+            ffi::agree(
+                &self.points,
+                &self.table,
+                &other.points,
+                &other.table,
+                distance.into(),
+                allowance,
+            )
+        };
+        room::with(room::walk(self.levels.max(other.levels)), agree).agreement()
     }
 
     /// Visits that always decide [`near`](Line::near) and [`inside`](Line::inside): 2n-1.
@@ -242,4 +296,18 @@ impl Line {
     fn count(&self) -> u32 {
         self.segments() as u32
     }
+}
+
+/// The levels of a built table's tree. Rows stand in preorder, a node before its halves, and a leaf's split is -1.
+fn levels(table: &[i32]) -> usize {
+    let mut due = vec![1];
+    let mut deepest = 0;
+    for row in table.chunks_exact(ROW_WIDTH) {
+        let level = due.pop().unwrap_or(0);
+        deepest = level.max(deepest);
+        if row[2] >= 0 {
+            due.extend([level + 1, level + 1]);
+        }
+    }
+    deepest
 }

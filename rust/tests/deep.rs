@@ -1,113 +1,148 @@
-//! The deepest trees, on a Rust thread's usual stack of 2 MiB, and for `meet`, which goes as deep as both lines
-//! together, on a program's usual 8 MiB. Nothing proves that a stack is deep enough; a walk that overflows ends
-//! this test's whole process.
+//! The deepest trees, asked from threads whose stacks do not hold them. Nothing proves that a stack is deep enough: a
+//! call that overflows one ends this test's whole process.
 
-use kneukelboom::{lent, Answer, Line, Side, ROW_WIDTH, SHEET};
+mod shapes;
 
-const SEGMENTS: usize = 4_096;
+use std::fmt::Debug;
+use std::sync::OnceLock;
+use std::thread;
 
-fn on_a_stack_of(megabytes: usize, test: fn()) {
-    let thread = std::thread::Builder::new().stack_size(megabytes << 20);
-    thread.spawn(test).unwrap().join().unwrap();
+use kneukelboom::{lent, Answer, Line, Side, ROW_WIDTH};
+use shapes::*;
+
+/// Stacks of a caller: the least that can be had (16 KB and what a thread itself needs), a small one, and Rust's usual
+/// one.
+const STACKS: [usize; 3] = [0, 256 << 10, 2 << 20];
+/// One that holds every call.
+const ROOMY: usize = 64 << 20;
+
+fn on_a_stack_of<T: Send>(bytes: usize, call: impl FnOnce() -> T + Send) -> T {
+    let builder = thread::Builder::new().stack_size(bytes);
+    thread::scope(|scope| builder.spawn_scoped(scope, call).unwrap().join().unwrap())
 }
 
-/// Strokes from side to side, each shorter than the one before: every split is next to the first point.
-fn comb(count: usize) -> Vec<(i32, i32)> {
-    let stroke = |i: i32| (i - 2_048, (SHEET - 3 * i) * if i % 2 == 0 { 1 } else { -1 });
-    (0..count as i32).map(stroke).collect()
-}
-
-/// A table that dismisses nothing, good by every rule of refusal 10, with the given split of each node.
-fn table_without_end(points: usize, split: fn(usize, usize) -> usize) -> Vec<i32> {
-    let mut table = Vec::new();
-    let mut due = vec![(0, points - 1)];
-    while let Some((first, last)) = due.pop() {
-        let middle = split(first, last);
-        let is_leaf = last - first == 1;
-        if !is_leaf {
-            due.extend([(middle, last), (first, middle)]);
-        }
-        let split = if is_leaf { -1 } else { middle as i32 };
-        table.extend([first as i32, last as i32, split]);
-        table.extend([i32::MIN, i32::MAX, i32::MIN, i32::MAX]);
-        table.extend([-SHEET, SHEET, -SHEET, SHEET]);
+/// What a call gives on a stack that holds it, after every smaller stack has given the same.
+fn the_same_on_each_stack<T: PartialEq + Debug + Send>(call: impl Fn() -> T + Sync) -> T {
+    let given = on_a_stack_of(ROOMY, &call);
+    for bytes in STACKS {
+        assert_eq!(on_a_stack_of(bytes, &call), given, "on {bytes} bytes");
     }
-    table
+    given
 }
 
-/// The split next to the last point: halves nest to the left.
-fn left(_: usize, last: usize) -> usize {
-    last - 1
+/// Each line both ways round, with another one beside it; built once.
+fn pairs() -> &'static [(Line, Line)] {
+    static PAIRS: OnceLock<Vec<(Line, Line)>> = OnceLock::new();
+    PAIRS.get_or_init(|| {
+        let pairs = [
+            (comb(0), comb(1)),
+            (reversed(comb(0)), reversed(comb(1))),
+            (saw(0), saw(1)),
+            (reversed(saw(0)), comb_ring()),
+        ];
+        let line = |points: Vec<(i32, i32)>| Line::new(&points).unwrap();
+        pairs.map(|(a, b)| (line(a), line(b))).into()
+    })
 }
 
-/// The split next to the first point: halves nest to the right.
-fn right(first: usize, _: usize) -> usize {
-    first + 1
-}
-
-/// A ring as flat as the sheet allows: along the bottom and back.
-fn flat_ring() -> Vec<i32> {
-    let half = SEGMENTS as i32 / 2;
-    let there = (0..half).flat_map(|i| [i, -16_000]);
-    let back = (0..half).rev().flat_map(|i| [i, -15_999]);
-    there.chain(back).chain([0, -16_000]).collect()
+/// The levels of a table's tree, counted by its nodes' runs of points.
+fn levels(line: &Line) -> usize {
+    let mut above: Vec<i32> = Vec::new();
+    let mut deepest = 0;
+    for row in line.table().chunks(ROW_WIDTH) {
+        let (first, last) = (row[0], row[1]);
+        while above.last().is_some_and(|&end| end <= first) {
+            above.pop();
+        }
+        above.push(last);
+        deepest = deepest.max(above.len());
+    }
+    deepest
 }
 
 #[test]
-fn deepest_lines_are_built_and_asked() {
-    on_a_stack_of(2, || {
-        let mut points = comb(SEGMENTS + 1);
-        for nested in ["right", "left"] {
-            let line = Line::new(&points).unwrap();
-            // Every second row is a leaf: the tree is as deep as it can be.
-            let leaves = line.table().chunks(ROW_WIDTH).skip(1).step_by(2);
-            if nested == "right" {
-                assert!(leaves.clone().all(|row| row[2] == -1));
-            }
-            assert!(line.near((0, 0), 0, u32::MAX).unwrap().decided().is_some());
-            points.reverse();
+fn deep_lines_are_built() {
+    for points in [comb(0), comb_ring()] {
+        for points in [points.clone(), reversed(points)] {
+            let line = the_same_on_each_stack(|| Line::new(&points).unwrap());
+            assert_eq!(levels(&line), SEGMENTS);
         }
-    });
+    }
+    for points in [saw(0), reversed(saw(0))] {
+        let line = the_same_on_each_stack(|| Line::new(&points).unwrap());
+        assert!(levels(&line) > 3_000, "{}", levels(&line));
+    }
 }
 
 #[test]
-fn near_walks_the_deepest_tables() {
-    on_a_stack_of(2, || {
-        let points = flat_ring();
-        for split in [left, right] {
-            let table = table_without_end(points.len() / 2, split);
-            let reply = lent::near(&points, &table, 0, 16_000, 0, u32::MAX);
-            let visits = 2 * SEGMENTS as u32 - 1;
-            assert_eq!(reply.answer(), Ok(Answer::No { visits }));
+fn deep_lines_are_asked_for_points() {
+    for line in pairs().iter().flat_map(|(a, b)| [a, b]) {
+        for (point, distance) in [((0, 0), 0), ((2_048, 3_712), 5), ((-16_000, 16_000), 9)] {
+            let near = || line.near(point, distance, line.enough_visits()).unwrap();
+            assert!(the_same_on_each_stack(near).decided().is_some());
         }
-    });
+    }
 }
 
 #[test]
-fn inside_walks_the_deepest_tables() {
-    on_a_stack_of(2, || {
-        let points = flat_ring();
-        for split in [left, right] {
-            let table = table_without_end(points.len() / 2, split);
-            let reply = lent::inside(&points, &table, 0, 16_000, u32::MAX);
-            let visits = 2 * SEGMENTS as u32 - 1;
-            assert_eq!(reply.side(), Ok(Side::Outside { visits }));
+fn deep_rings_are_asked_for_points() {
+    for points in [comb_ring(), reversed(comb_ring())] {
+        let ring = Line::new(&points).unwrap();
+        for point in [(0, 0), (2_040, 0), (-2_048, 16_000), (-2_048, 16_001)] {
+            let inside = || ring.inside(point, ring.enough_visits()).unwrap();
+            let answer = the_same_on_each_stack(inside);
+            assert!(!matches!(answer, Side::Undecided { .. }), "{answer}");
         }
-    });
+    }
 }
 
 #[test]
-fn meet_walks_the_deepest_tables() {
-    on_a_stack_of(8, || {
-        let points = flat_ring();
-        let above: Vec<i32> = points.chunks(2).flat_map(|p| [p[0], p[1] + 9]).collect();
-        for split in [left, right] {
-            let table = table_without_end(points.len() / 2, split);
-            // As deep as both lines together; going through all pairs would take a second.
-            let allowance = 100_000;
-            let reply = lent::meet(&points, &table, &above, &table, allowance);
-            let undecided = Answer::Undecided { visits: allowance };
-            assert_eq!(reply.answer(), Ok(undecided));
+fn deep_lines_are_asked_whether_they_meet() {
+    for (a, b) in pairs() {
+        for (a, b) in [(a, b), (b, a)] {
+            let _ = the_same_on_each_stack(|| a.meets(b, 100_000).unwrap());
         }
-    });
+    }
+}
+
+#[test]
+fn deep_lines_are_asked_whether_they_agree() {
+    for (a, b) in pairs() {
+        for (a, b, distance) in [(a, b, 1), (b, a, 0)] {
+            let _ = the_same_on_each_stack(|| a.agrees(b, distance, 100_000).unwrap());
+        }
+    }
+}
+
+#[test]
+fn deep_lent_lines_are_built() {
+    for points in [comb(0), reversed(saw(0))] {
+        let points = numbers(&points);
+        the_same_on_each_stack(|| {
+            let mut table = vec![0; lent::table_len(points.len())];
+            lent::build(&points, &mut table).built().unwrap();
+            table
+        });
+    }
+}
+
+#[test]
+fn the_deepest_lent_tables_are_walked() {
+    let (low, high) = (flat_ring(0), flat_ring(9));
+    for split in [left, right] {
+        let table = table_without_end(low.len() / 2, split);
+        let visits = 2 * SEGMENTS as u32 - 1;
+        let near = || lent::near(&low, &table, 0, 16_000, 0, u32::MAX).answer();
+        assert_eq!(the_same_on_each_stack(near), Ok(Answer::No { visits }));
+        let inside = || lent::inside(&low, &table, 0, 16_000, u32::MAX).side();
+        assert_eq!(the_same_on_each_stack(inside), Ok(Side::Outside { visits }));
+        // As deep as both lines together; going through all pairs would take a second.
+        let visits = 100_000;
+        let meet = || lent::meet(&low, &table, &high, &table, visits).answer();
+        let undecided = Answer::Undecided { visits };
+        assert_eq!(the_same_on_each_stack(meet), Ok(undecided));
+        let agree = || lent::agree(&low, &table, &high, &table, 0, visits).agreement();
+        let no = the_same_on_each_stack(agree).unwrap();
+        assert_eq!(no.decided(), Some(false));
+    }
 }

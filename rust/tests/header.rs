@@ -69,7 +69,7 @@ fn header_text() -> String {
 }
 
 fn rust_text() -> String {
-    text("rust/src/lent.rs") + &text("rust/src/ffi.rs")
+    text("rust/src/ffi.rs") + &text("rust/src/lent.rs")
 }
 
 /// The text without `//` and `/* */` comments.
