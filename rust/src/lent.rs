@@ -32,20 +32,31 @@ use crate::{ffi, room, MOST_POINTS, ROW_WIDTH};
 
 /// The words of a [`Reply`], as in `kneukelboom.h`.
 pub mod word {
+    /// `build`: the table is written.
     pub const BUILT: u32 = 0;
+    /// `near`, `meet`, `agree`.
     pub const YES: u32 = 1;
+    /// `near`, `meet`, `agree`.
     pub const NO: u32 = 2;
+    /// `inside`.
     pub const INSIDE: u32 = 3;
+    /// `inside`.
     pub const OUTSIDE: u32 = 4;
+    /// `inside`: the point is on the ring itself.
     pub const ON: u32 = 5;
+    /// Any question: more visits are needed than were allowed.
     pub const UNDECIDED: u32 = 6;
+    /// Any call: the number says why.
     pub const REFUSED: u32 = 7;
 }
 
 /// The lines of a [`Reply`], as in `kneukelboom.h`.
 pub mod line {
+    /// None is named.
     pub const NO_LINE: u32 = 0;
+    /// The first line of a call, or its only one.
     pub const LINE_A: u32 = 1;
+    /// The second line of `meet` and `agree`.
     pub const LINE_B: u32 = 2;
 }
 

@@ -54,6 +54,10 @@
 //! An eighth of the running thread's stack, and at least 16 KB, is left free. On a stack that is not the thread's own (a
 //! coroutine's) nothing is known of the room, and every call is made on a thread of its own.
 #![deny(unsafe_code)]
+#![deny(missing_docs)]
+
+use std::fmt;
+use std::hash::{Hash, Hasher};
 
 // Tests of this crate's own share shapes with those beside it, which know it by its name.
 #[cfg(test)]
@@ -63,10 +67,12 @@ mod answer;
 #[allow(unsafe_code)]
 mod ffi;
 pub mod lent;
+mod points;
 mod refusal;
 mod room;
 
-pub use answer::{Agreement, Answer, Side};
+pub use answer::{Agreement, Answer, PlainSide, Side};
+pub use points::Points;
 pub use refusal::{Name, Refusal};
 
 /// The examples of the README are tests too.
@@ -92,8 +98,8 @@ pub const ARCHIVE: &str = env!("KNEUKELBOOM_ARCHIVE");
 /// A line with its strip tree.
 ///
 /// Only lines that were built exist, so the questions refuse no more than a distance (7), an asked point (8)
-/// or a line that is no ring (9).
-#[derive(Clone, PartialEq, Eq, Debug)]
+/// or a line that is no ring (9). Lines are equal, and hash the same, where their points are; the tree follows from them.
+#[derive(Clone)]
 pub struct Line {
     /// x, y, x, y
     points: Vec<i32>,
@@ -117,7 +123,25 @@ impl Line {
     /// # Panics
     /// If a thread is needed and cannot be started: [Threads and stack](crate#threads-and-stack).
     pub fn new(points: &[(i32, i32)]) -> Result<Line, Refusal> {
-        Line::from_numbers(points.iter().flat_map(|&(x, y)| [x, y]).collect())
+        Line::from_points(points.iter().copied())
+    }
+
+    /// The same from whatever gives points. (`collect` cannot refuse, so a line is no `FromIterator`.)
+    ///
+    /// ```
+    /// # use kneukelboom::Line;
+    /// let metres = [(0, 0), (10, 7), (20, 0)];
+    /// let line = Line::from_points(metres.iter().map(|(x, y)| (16 * x, 16 * y)))?;
+    /// assert_eq!(line, Line::new(&[(0, 0), (160, 112), (320, 0)])?);
+    /// # Ok::<(), kneukelboom::Refusal>(())
+    /// ```
+    ///
+    /// # Panics
+    /// If a thread is needed and cannot be started: [Threads and stack](crate#threads-and-stack).
+    pub fn from_points(points: impl IntoIterator<Item = (i32, i32)>) -> Result<Line, Refusal> {
+        // One point too many is refused whatever follows it: no need to read on.
+        let read = points.into_iter().take(MOST_POINTS + 1);
+        Line::from_numbers(read.flat_map(|(x, y)| [x, y]).collect())
     }
 
     /// The same from coordinates x, y, x, y; the vector is kept, not copied.
@@ -147,6 +171,22 @@ impl Line {
     /// The coordinates, x, y, x, y.
     pub fn points(&self) -> &[i32] {
         &self.points
+    }
+
+    /// The points, in order.
+    ///
+    /// ```
+    /// # use kneukelboom::Line;
+    /// let line = Line::new(&[(0, 0), (4, 3), (8, 0)])?;
+    /// assert_eq!(line.iter().len(), 3);
+    /// let back: Vec<(i32, i32)> = line.iter().rev().collect();
+    /// assert_eq!(back, [(8, 0), (4, 3), (0, 0)]);
+    /// let highest = (&line).into_iter().map(|(_, y)| y).max();
+    /// assert_eq!(highest, Some(3));
+    /// # Ok::<(), kneukelboom::Refusal>(())
+    /// ```
+    pub fn iter(&self) -> Points<'_> {
+        Points::new(&self.points)
     }
 
     /// The rows of the tree in preorder, [`ROW_WIDTH`] numbers each.
@@ -295,6 +335,60 @@ impl Line {
     /// n; at most 4,096, so that every bound fits.
     fn count(&self) -> u32 {
         self.segments() as u32
+    }
+}
+
+impl PartialEq for Line {
+    fn eq(&self, other: &Line) -> bool {
+        self.points == other.points
+    }
+}
+
+impl Eq for Line {}
+
+impl Hash for Line {
+    fn hash<H: Hasher>(&self, state: &mut H) {
+        self.points.hash(state);
+    }
+}
+
+/// The points, and not the table.
+impl fmt::Debug for Line {
+    fn fmt(&self, f: &mut fmt::Formatter) -> fmt::Result {
+        f.debug_tuple("Line").field(&self.iter()).finish()
+    }
+}
+
+impl<'a> IntoIterator for &'a Line {
+    type Item = (i32, i32);
+    type IntoIter = Points<'a>;
+
+    fn into_iter(self) -> Points<'a> {
+        self.iter()
+    }
+}
+
+impl TryFrom<&[(i32, i32)]> for Line {
+    type Error = Refusal;
+
+    fn try_from(points: &[(i32, i32)]) -> Result<Line, Refusal> {
+        Line::new(points)
+    }
+}
+
+impl TryFrom<Vec<(i32, i32)>> for Line {
+    type Error = Refusal;
+
+    fn try_from(points: Vec<(i32, i32)>) -> Result<Line, Refusal> {
+        Line::new(&points)
+    }
+}
+
+impl<const N: usize> TryFrom<[(i32, i32); N]> for Line {
+    type Error = Refusal;
+
+    fn try_from(points: [(i32, i32); N]) -> Result<Line, Refusal> {
+        Line::new(&points)
     }
 }
 

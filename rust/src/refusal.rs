@@ -3,10 +3,12 @@
 use std::error::Error;
 use std::fmt;
 
-/// Which line of a question: A is the one asked, B the other.
+/// Which line of a question.
 #[derive(Clone, Copy, PartialEq, Eq, Hash, Debug)]
 pub enum Name {
+    /// The line that is asked.
     A,
+    /// The other one.
     B,
 }
 
@@ -19,17 +21,19 @@ impl fmt::Display for Name {
     }
 }
 
-/// Why a build or a question was refused. Each number comes exactly when its reason is the first, in a fixed order, that holds.
+/// Why a build or a question was refused. Each number comes exactly when its reason is the first, in a fixed order, that
+/// holds. Its constants name the numbers, in the words of `kneukelboom.h`.
 ///
 /// ```
-/// use kneukelboom::Line;
+/// use kneukelboom::{Line, Refusal};
 ///
 /// let refusal = Line::new(&[(0, 0), (16_384, 0)]).unwrap_err();
+/// assert_eq!(refusal.number, Refusal::POINT_OFF_SHEET);
 /// assert_eq!(refusal.to_string(), "refused 4: point 1 of line A is off the sheet");
 /// ```
 #[derive(Clone, Copy, PartialEq, Eq, Hash, Debug)]
 pub struct Refusal {
-    /// 1 to 11, by document 01.
+    /// 1 to 11.
     pub number: u32,
     /// The line whose points or table are at fault, where one is.
     pub line: Option<Name>,
@@ -37,6 +41,31 @@ pub struct Refusal {
     pub place: usize,
     /// The visits made before.
     pub visits: u32,
+}
+
+impl Refusal {
+    /// An odd length of a points array.
+    pub const ODD_LENGTH: u32 = 1;
+    /// Fewer than 2 points.
+    pub const TOO_FEW_POINTS: u32 = 2;
+    /// More than 4,097 points.
+    pub const TOO_MANY_POINTS: u32 = 3;
+    /// Building: a coordinate off the sheet.
+    pub const POINT_OFF_SHEET: u32 = 4;
+    /// Building: two neighbours that are equal.
+    pub const EQUAL_NEIGHBOURS: u32 = 5;
+    /// A table that is too short for its points.
+    pub const SHORT_TABLE: u32 = 6;
+    /// A distance outside 0 to 32,767.
+    pub const DISTANCE: u32 = 7;
+    /// An asked point off the sheet.
+    pub const ASKED_OFF_SHEET: u32 = 8;
+    /// A line with fewer than 4 points, or that does not end where it begins, asked for its inside.
+    pub const NO_RING: u32 = 9;
+    /// A bad row, read at a visit: the table is not this line's.
+    pub const BAD_ROW: u32 = 10;
+    /// A row that leads past the last row; the checks of a bad row leave it no case.
+    pub const CHILD_PAST_END: u32 = 11;
 }
 
 impl fmt::Display for Refusal {
@@ -49,25 +78,33 @@ impl fmt::Display for Refusal {
         } = *self;
         write!(f, "refused {number}: ")?;
         match (number, line) {
-            (1, Some(line)) => write!(f, "{line} has an odd number of coordinates"),
-            (2, Some(line)) => write!(f, "{line} has fewer than 2 points"),
-            (3, Some(line)) => write!(f, "{line} has more than 4,097 points"),
-            (4 | 8, Some(line)) => write!(f, "point {place} of {line} is off the sheet"),
-            (5, Some(line)) => write!(f, "points {place} and {} of {line} are equal", place + 1),
-            (6, Some(line)) => write!(f, "the table of {line} is too short for its points"),
-            (7, _) => write!(f, "the distance is not from 0 to 32,767"),
-            (8, None) => write!(f, "the asked point is off the sheet"),
-            (9, Some(line)) => write!(
+            (Refusal::ODD_LENGTH, Some(line)) => {
+                write!(f, "{line} has an odd number of coordinates")
+            }
+            (Refusal::TOO_FEW_POINTS, Some(line)) => write!(f, "{line} has fewer than 2 points"),
+            (Refusal::TOO_MANY_POINTS, Some(line)) => {
+                write!(f, "{line} has more than 4,097 points")
+            }
+            (Refusal::POINT_OFF_SHEET | Refusal::ASKED_OFF_SHEET, Some(line)) => {
+                write!(f, "point {place} of {line} is off the sheet")
+            }
+            (Refusal::EQUAL_NEIGHBOURS, Some(line)) => {
+                write!(f, "points {place} and {} of {line} are equal", place + 1)
+            }
+            (Refusal::SHORT_TABLE, Some(line)) => {
+                write!(f, "the table of {line} is too short for its points")
+            }
+            (Refusal::DISTANCE, _) => write!(f, "the distance is not from 0 to 32,767"),
+            (Refusal::ASKED_OFF_SHEET, None) => write!(f, "the asked point is off the sheet"),
+            (Refusal::NO_RING, Some(line)) => write!(
                 f,
                 "{line} is no ring: it has fewer than 4 points, or does not end where it begins"
             ),
-            (10, Some(line)) => {
-                write!(
-                    f,
-                    "row {place} of the table of {line} is bad (visit {visits})"
-                )
-            }
-            (11, Some(line)) => write!(
+            (Refusal::BAD_ROW, Some(line)) => write!(
+                f,
+                "row {place} of the table of {line} is bad (visit {visits})"
+            ),
+            (Refusal::CHILD_PAST_END, Some(line)) => write!(
                 f,
                 "row {place} of the table of {line} leads past the last row (visit {visits})"
             ),

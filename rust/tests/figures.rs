@@ -1,4 +1,4 @@
-//! Document 01's figures, asked of the archive through the safe calls. P1 to P12 are theorems about the
+//! The figures of the rules, asked of the archive through the safe calls. P1 to P12 are theorems about the
 //! definitions; here the compiled code is held to them, and to the figures at each limit.
 
 use kneukelboom::{lent, Agreement, Answer, Line, Name, Refusal, Side, ROW_WIDTH};
@@ -247,38 +247,31 @@ fn off_sheet_points_of_agree_are_named() {
     assert_eq!((refused.number, refused.line, refused.place), (8, A, 2));
 }
 
+/// Each refusal that a call can give, with its sentence, as `cases/sentences.tsv` has them for all languages.
 #[test]
 fn refusals_are_sentences() {
-    let said = |number, line, place| refusal(number, line, place).to_string();
-    assert_eq!(
-        said(4, A, 17),
-        "refused 4: point 17 of line A is off the sheet"
-    );
-    assert_eq!(
-        said(5, B, 7),
-        "refused 5: points 7 and 8 of line B are equal"
-    );
-    assert_eq!(
-        said(8, None, 0),
-        "refused 8: the asked point is off the sheet"
-    );
-    assert_eq!(
-        said(8, B, 3),
-        "refused 8: point 3 of line B is off the sheet"
-    );
-    assert_eq!(
-        said(7, None, 0),
-        "refused 7: the distance is not from 0 to 32,767"
-    );
-    // All others speak of a line.
-    for number in (1..=11).filter(|&number| number != 7) {
-        for line in [A, B] {
-            let sentence = said(number, line, 5);
-            let name = line.unwrap().to_string();
-            assert!(sentence.contains(&name), "{sentence}");
-            assert!(!sentence.contains("place"), "{sentence}");
-        }
+    let sentences = include_str!("../../cases/sentences.tsv");
+    let mut numbers = Vec::new();
+    for row in sentences.lines().skip(1) {
+        let fields: Vec<&str> = row.split('\t').collect();
+        let [number, line, place, visits, sentence] = fields[..] else {
+            panic!("not five fields: {row}");
+        };
+        let line = match line {
+            "A" => A,
+            "B" => B,
+            _ => None,
+        };
+        let (number, place) = (number.parse().unwrap(), place.parse().unwrap());
+        let said = Refusal {
+            visits: visits.parse().unwrap(),
+            ..refusal(number, line, place)
+        };
+        assert_eq!(said.to_string(), sentence);
+        numbers.push(number);
     }
+    numbers.dedup();
+    assert_eq!(numbers, Vec::from_iter(1..=11));
 }
 
 #[test]

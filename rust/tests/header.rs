@@ -7,7 +7,7 @@ use std::fmt;
 use std::fs;
 use std::path::PathBuf;
 
-use kneukelboom::lent;
+use kneukelboom::{lent, Refusal};
 
 /// A parameter or a field: its name, and its type as C has it.
 #[derive(Clone, PartialEq, Eq, Debug)]
@@ -391,6 +391,17 @@ fn numbers_are_the_headers() {
         ("NO_LINE", line::NO_LINE),
         ("LINE_A", line::LINE_A),
         ("LINE_B", line::LINE_B),
+        ("REFUSED_ODD_LENGTH", Refusal::ODD_LENGTH),
+        ("REFUSED_TOO_FEW_POINTS", Refusal::TOO_FEW_POINTS),
+        ("REFUSED_TOO_MANY_POINTS", Refusal::TOO_MANY_POINTS),
+        ("REFUSED_POINT_OFF_SHEET", Refusal::POINT_OFF_SHEET),
+        ("REFUSED_EQUAL_NEIGHBOURS", Refusal::EQUAL_NEIGHBOURS),
+        ("REFUSED_SHORT_TABLE", Refusal::SHORT_TABLE),
+        ("REFUSED_DISTANCE", Refusal::DISTANCE),
+        ("REFUSED_ASKED_OFF_SHEET", Refusal::ASKED_OFF_SHEET),
+        ("REFUSED_NO_RING", Refusal::NO_RING),
+        ("REFUSED_BAD_ROW", Refusal::BAD_ROW),
+        ("REFUSED_CHILD_PAST_END", Refusal::CHILD_PAST_END),
     ] {
         assert_eq!(
             header_number(&format!("KNEUKELBOOM_{name}")),
