@@ -6,8 +6,8 @@ use crate::refusal::Name;
 
 /// What [`near`](crate::Line::near) and [`meets`](crate::Line::meets) answer.
 ///
-/// There is deliberately no way to read it as a bare bool: undecided is neither. Match what [`decided`](Answer::decided)
-/// gives, or each answer by its name; what `_` stands for may grow, and is never a no.
+/// There is deliberately no way to read it as a bare bool: undecided is neither. Match what
+/// [`decided`](Answer::decided) gives, or each answer by its name; what `_` stands for may grow, and is never a no.
 #[derive(Clone, Copy, PartialEq, Eq, Hash, Debug)]
 #[non_exhaustive]
 #[must_use]

@@ -1,5 +1,5 @@
-//! The only unsafe code of this crate: the five functions of the proved archive, each behind a safe one, and what the C
-//! library knows of a thread's stack.
+//! The only unsafe code of this crate: the five functions of the proved archive, each behind a safe one, and what is
+//! to be known of a thread's stack.
 //!
 //! Why the calls are sound:
 //! - A slice's pointer leads to as many numbers as its length says, is aligned, and is never null. A `&mut`
@@ -12,6 +12,8 @@
 //!
 //! What is not proved: that the stack is deep enough. Calls nest at most n deep, n + m for `meet`, with n and m at
 //! most 4,096: no call may be made but through [`room::with`](crate::room::with).
+
+use std::arch::asm;
 
 use crate::lent::Reply;
 
@@ -171,6 +173,18 @@ pub fn agree(
     }
 }
 
+/// Where the stack of the running thread has come down to. The address of a local would not do: it lies anywhere in a
+/// frame, and the frame of a caller that this is inlined into can be large.
+#[inline(always)]
+pub fn stack_pointer() -> usize {
+    let pointer;
+    // SAFETY: it copies one register into another, and touches neither memory nor flags.
+    unsafe {
+        asm!("mov {}, rsp", out(reg) pointer, options(nomem, nostack, preserves_flags));
+    }
+    pointer
+}
+
 /// `pthread_attr_t`: 56 bytes on x86-64 Linux, in glibc and in musl, with room to spare.
 #[repr(C, align(16))]
 struct Attributes([u64; 16]);
@@ -190,8 +204,8 @@ extern "C" {
 pub fn stack() -> Option<(usize, usize)> {
     let mut attributes = Attributes([0; 16]);
     let (mut low, mut size) = (0, 0);
-    // SAFETY: the attributes are read and destroyed only after they have been written, and all three are locals with room
-    // for what is written: an address is as wide as a usize, and so is a `pthread_t`.
+    // SAFETY: the attributes are read and destroyed only after they have been written, and all three are locals with
+    // room for what is written: an address is as wide as a usize, and so is a `pthread_t`.
     unsafe {
         if pthread_getattr_np(pthread_self(), &mut attributes) != 0 {
             return None;

@@ -28,7 +28,7 @@
 
 use crate::answer::{Agreement, Answer, Side};
 use crate::refusal::{Name, Refusal};
-use crate::{ffi, room, MOST_POINTS, ROW_WIDTH};
+use crate::{ffi, room, ROW_WIDTH};
 
 /// The words of a [`Reply`], as in `kneukelboom.h`.
 pub mod word {
@@ -69,21 +69,20 @@ pub const fn table_len(points_len: usize) -> usize {
     }
 }
 
-/// Levels that the tree of a line can have: n, and none where the line is refused for its length.
+/// Levels that the tree of a line can have: no more than its points.
 fn levels(points: &[i32]) -> usize {
-    let points = (points.len() / 2).min(MOST_POINTS);
-    points.saturating_sub(1)
+    points.len() / 2
 }
 
-/// Writes the table of a line: built, or refused and nothing is written. A table needs [`table_len`] numbers; those past
-/// them stay unchanged.
+/// Writes the table of a line: built, or refused and nothing is written. A table needs [`table_len`] numbers; those
+/// past them stay unchanged.
 ///
 /// # Panics
 /// If a thread is needed and cannot be started: [Threads and stack](crate#threads-and-stack).
 #[inline]
 pub fn build(points: &[i32], table: &mut [i32]) -> Reply {
     let need = room::build(levels(points));
-    room::with(need, || ffi::build(points, table))
+    room::with!(need, ffi::build(points, table))
 }
 
 /// Is (x, y) within the distance of some segment of the line?
@@ -93,7 +92,7 @@ pub fn build(points: &[i32], table: &mut [i32]) -> Reply {
 #[inline]
 pub fn near(points: &[i32], table: &[i32], x: i64, y: i64, distance: i64, allowance: u32) -> Reply {
     let need = room::walk(levels(points));
-    room::with(need, || ffi::near(points, table, x, y, distance, allowance))
+    room::with!(need, ffi::near(points, table, x, y, distance, allowance))
 }
 
 /// On which side of a ring is (x, y)?
@@ -103,7 +102,7 @@ pub fn near(points: &[i32], table: &[i32], x: i64, y: i64, distance: i64, allowa
 #[inline]
 pub fn inside(points: &[i32], table: &[i32], x: i64, y: i64, allowance: u32) -> Reply {
     let need = room::walk(levels(points));
-    room::with(need, || ffi::inside(points, table, x, y, allowance))
+    room::with!(need, ffi::inside(points, table, x, y, allowance))
 }
 
 /// Do two lines share a point?
@@ -119,9 +118,10 @@ pub fn meet(
     allowance: u32,
 ) -> Reply {
     let need = room::meet(levels(points_a) + levels(points_b));
-    room::with(need, || {
+    room::with!(
+        need,
         ffi::meet(points_a, table_a, points_b, table_b, allowance)
-    })
+    )
 }
 
 /// Is each point of either line within the distance of the other line?
@@ -138,9 +138,10 @@ pub fn agree(
     allowance: u32,
 ) -> Reply {
     let need = room::walk(levels(points_a).max(levels(points_b)));
-    room::with(need, || {
+    room::with!(
+        need,
         ffi::agree(points_a, table_a, points_b, table_b, distance, allowance)
-    })
+    )
 }
 
 /// What a call answers, in plain numbers; the methods read it as an enum.

@@ -39,20 +39,18 @@
 //!
 //! # Threads and stack
 //!
-//! Lines may be asked from several threads at once. No call overflows a stack: each knows what it can need, and where
-//! that is more than the running thread has left, it is made on a thread of its own, which is started and joined within
-//! the call. The answer is the same. That is for lines whose trees are hundreds of levels deep, as combs and spirals
-//! can be; the tree of a survey has some tens. A call that needs a thread which cannot be started panics.
+//! Lines may be asked from several threads at once. No call overflows a stack: what each can need is known before it is
+//! made, and where that is more than the running thread has left, it is made on a thread of its own, which is started
+//! and joined within the call. The answer is the same, some tens of microseconds later. A call that needs a thread
+//! which cannot be started panics.
 //!
-//! | call | bytes | with trees of 30 levels | at most |
-//! |---|---|---|---|
-//! | [`near`](Line::near), [`inside`](Line::inside), [`agrees`](Line::agrees) | 256 + 160 a level | 5 KB | 656 KB |
-//! | [`meets`](Line::meets) | 256 + 416 a level of both | 25 KB | 3.4 MB |
-//! | building | 256 + 192 a segment | | 787 KB |
-//! | [`lent`] | as above, a segment for a level | | |
+//! The need goes by the levels of the tree. Those of a [`Line`] are counted when it is built: the tree of a survey has
+//! some tens, and its questions need some kilobytes; combs and spirals of 4,097 points can have 4,096, and need up to
+//! some megabytes. Building, and all of [`lent`], reckon with a level for each point. The README has the figures.
 //!
-//! An eighth of the running thread's stack, and at least 16 KB, is left free. On a stack that is not the thread's own (a
-//! coroutine's) nothing is known of the room, and every call is made on a thread of its own.
+//! Of the running thread's stack an eighth, and at least 16 KB, is left free. On a stack that is not the thread's own
+//! (a coroutine's) nothing is known of the room, and every call is made on a thread of its own. To start that takes
+//! some 2 KB of the caller's stack (unoptimised 6), as any call has its frame.
 #![deny(unsafe_code)]
 #![deny(missing_docs)]
 
@@ -98,7 +96,8 @@ pub const ARCHIVE: &str = env!("KNEUKELBOOM_ARCHIVE");
 /// A line with its strip tree.
 ///
 /// Only lines that were built exist, so the questions refuse no more than a distance (7), an asked point (8)
-/// or a line that is no ring (9). Lines are equal, and hash the same, where their points are; the tree follows from them.
+/// or a line that is no ring (9). Lines are equal, and hash the same, where their points are; the tree follows from
+/// them.
 #[derive(Clone)]
 pub struct Line {
     /// x, y, x, y
@@ -221,9 +220,9 @@ impl Line {
         allowance: u32,
     ) -> Result<Answer, Refusal> {
         let (x, y) = (point.0.into(), point.1.into());
-        let distance = distance.into();
-        let near = || ffi::near(&self.points, &self.table, x, y, distance, allowance);
-        room::with(room::walk(self.levels), near).answer()
+        let (distance, need) = (distance.into(), room::walk(self.levels));
+        let (points, table) = self.lent();
+        room::with!(need, ffi::near(points, table, x, y, distance, allowance)).answer()
     }
 
     /// On which side of this ring is a point?
@@ -244,8 +243,9 @@ impl Line {
     /// If a thread is needed and cannot be started: [Threads and stack](crate#threads-and-stack).
     pub fn inside(&self, point: (i32, i32), allowance: u32) -> Result<Side, Refusal> {
         let (x, y) = (point.0.into(), point.1.into());
-        let inside = || ffi::inside(&self.points, &self.table, x, y, allowance);
-        room::with(room::walk(self.levels), inside).side()
+        let need = room::walk(self.levels);
+        let (points, table) = self.lent();
+        room::with!(need, ffi::inside(points, table, x, y, allowance)).side()
     }
 
     /// Do this line (A) and another (B) share a point, ends, touches and overlaps included?
@@ -265,16 +265,9 @@ impl Line {
     /// # Panics
     /// If a thread is needed and cannot be started: [Threads and stack](crate#threads-and-stack).
     pub fn meets(&self, other: &Line, allowance: u32) -> Result<Answer, Refusal> {
-        let meet = || {
-            ffi::meet(
-                &self.points,
-                &self.table,
-                &other.points,
-                &other.table,
-                allowance,
-            )
-        };
-        room::with(room::meet(self.levels + other.levels), meet).answer()
+        let need = room::meet(self.levels + other.levels);
+        let ((p, t), (q, u)) = (self.lent(), other.lent());
+        room::with!(need, ffi::meet(p, t, q, u, allowance)).answer()
     }
 
     /// Is each point of this line (A) within the distance of another (B), and each point of B within it of A?
@@ -303,17 +296,10 @@ impl Line {
         distance: i32,
         allowance: u32,
     ) -> Result<Agreement, Refusal> {
-        let agree = || {
-            ffi::agree(
-                &self.points,
-                &self.table,
-                &other.points,
-                &other.table,
-                distance.into(),
-                allowance,
-            )
-        };
-        room::with(room::walk(self.levels.max(other.levels)), agree).agreement()
+        let need = room::walk(self.levels.max(other.levels));
+        let ((p, t), (q, u)) = (self.lent(), other.lent());
+        let distance = distance.into();
+        room::with!(need, ffi::agree(p, t, q, u, distance, allowance)).agreement()
     }
 
     /// Visits that always decide [`near`](Line::near) and [`inside`](Line::inside): 2n-1.
@@ -330,6 +316,11 @@ impl Line {
     pub fn enough_to_agree(&self, other: &Line) -> u32 {
         let (n, m) = (self.count(), other.count());
         (n + 1) * (2 * m - 1) + (m + 1) * (2 * n - 1)
+    }
+
+    /// Points and table, for a call.
+    fn lent(&self) -> (&[i32], &[i32]) {
+        (&self.points, &self.table)
     }
 
     /// n; at most 4,096, so that every bound fits.

@@ -21,8 +21,8 @@ impl fmt::Display for Name {
     }
 }
 
-/// Why a build or a question was refused. Each number comes exactly when its reason is the first, in a fixed order, that
-/// holds. Its constants name the numbers, in the words of `kneukelboom.h`.
+/// Why a build or a question was refused. Each number comes exactly when its reason is the first, in a fixed order,
+/// that holds. Its constants name the numbers, in the words of `kneukelboom.h`.
 ///
 /// ```
 /// use kneukelboom::{Line, Refusal};

@@ -8,8 +8,9 @@ use std::cell::Cell;
 use std::panic::resume_unwind;
 use std::thread;
 
-use crate::ffi;
+use crate::ffi::{self, stack_pointer};
 use crate::lent::Reply;
+use crate::MOST_POINTS;
 
 /// The bytes of stack that building a tree of so many levels takes, as `KNEUKELBOOM_STACK_BUILD` of the header has it.
 pub const fn build(levels: usize) -> usize {
@@ -29,33 +30,48 @@ pub const fn meet(levels: usize) -> usize {
 /// What is always left free: for the frames of this crate, a guard page, a signal's frame.
 const RESERVE: usize = 16 << 10;
 
-/// Makes a call that needs so many bytes of stack, here where they are free, else on a thread of its own.
-///
-/// # Panics
-/// Where a thread is needed and cannot be started.
-#[inline]
-pub fn with(need: usize, mut call: impl FnMut() -> Reply + Send) -> Reply {
-    match STACK.with(Cell::get) {
-        Some(stack) if stack.holds(need, here()) => call(),
-        _ => here_or_elsewhere(need, &mut call),
-    }
+/// What the deepest call of all needs.
+const MOST: usize = meet(2 * (MOST_POINTS - 1));
+
+/// Makes a call that needs so many bytes of stack, here where they are free, else on a thread of its own, and panics
+/// where that cannot be started. A macro, so that nothing is put into memory for the call that is made here.
+macro_rules! with {
+    ($need:expr, $call:expr) => {{
+        let need = $need;
+        if $crate::room::is_free(need) {
+            $call
+        } else {
+            $crate::room::here_or_elsewhere(need, move || $call)
+        }
+    }};
+}
+pub(crate) use with;
+
+/// Is it known that so many bytes of stack are free here?
+#[inline(always)]
+pub fn is_free(need: usize) -> bool {
+    STACK.with(Cell::get).holds(need, stack_pointer())
 }
 
+/// What [`with`] does where that is not known, or not so: the thread's stack may not have been asked for yet.
 #[cold]
 #[inline(never)]
-fn here_or_elsewhere(need: usize, call: &mut (dyn FnMut() -> Reply + Send)) -> Reply {
-    if own_stack().holds(need, here()) {
-        call()
-    } else {
-        elsewhere(need, need + need / 4, call)
+pub fn here_or_elsewhere(need: usize, call: impl FnOnce() -> Reply + Send) -> Reply {
+    // A line of more points than there may be is refused before it is walked.
+    let need = need.min(MOST);
+    if own_stack().holds(need, stack_pointer()) {
+        return call();
     }
+    let mut call = Some(call);
+    let mut once = || call.take().expect("a call is made once")();
+    elsewhere(need, need + need / 4, &mut once)
 }
 
 /// Makes the call on a new thread, of so many bytes and what is left free. What a program keeps for each thread (its
 /// thread-locals) comes out of the same bytes: where that leaves too few, a thread of twice as many is started.
 fn elsewhere(need: usize, size: usize, call: &mut (dyn FnMut() -> Reply + Send)) -> Reply {
     let there = || {
-        let (stack, here) = (own_stack(), here());
+        let (stack, here) = (own_stack(), stack_pointer());
         if stack.has(here) && !stack.holds(need, here) {
             elsewhere(need, 2 * size, call)
         } else {
@@ -74,13 +90,6 @@ fn elsewhere(need: usize, size: usize, call: &mut (dyn FnMut() -> Reply + Send))
     })
 }
 
-/// An address in the frame of the caller, or close to it.
-#[inline]
-fn here() -> usize {
-    let mark = 0_u8;
-    std::ptr::addr_of!(mark) as usize
-}
-
 /// The stack of a thread: its lowest address, the lowest that a call may come down to, and the one past its highest.
 #[derive(Clone, Copy)]
 struct Stack {
@@ -97,14 +106,12 @@ impl Stack {
         high: 0,
     };
 
-    /// An eighth of a stack stays free, and never less than the reserve: of the first thread's usual 8 MiB the 1 MiB that
-    /// the kernel may want.
+    /// An eighth of a stack stays free, and never less than the reserve: of the first thread's usual 8 MiB the 1 MiB
+    /// that the kernel may want.
     fn new(low: usize, size: usize) -> Stack {
-        Stack {
-            low,
-            lowest: low.saturating_add(RESERVE.max(size / 8)),
-            high: low.saturating_add(size),
-        }
+        let high = low.saturating_add(size);
+        let lowest = low.saturating_add(RESERVE.max(size / 8)).min(high);
+        Stack { low, lowest, high }
     }
 
     fn has(self, address: usize) -> bool {
@@ -112,34 +119,37 @@ impl Stack {
     }
 
     /// Are so many bytes free below an address? No, if it is not on this stack.
-    #[inline]
+    #[inline(always)]
     fn holds(self, need: usize, below: usize) -> bool {
-        self.lowest <= below && below < self.high && need <= below - self.lowest
+        // Below the lowest there are more left, wrapped round, than this stack has.
+        let left = below.wrapping_sub(self.lowest);
+        need <= left && left < self.high - self.lowest
     }
 }
 
 thread_local! {
     /// The running thread's, once it has been asked for.
-    static STACK: Cell<Option<Stack>> = const { Cell::new(None) };
+    static STACK: Cell<Stack> = const { Cell::new(Stack::UNKNOWN) };
+    static ASKED: Cell<bool> = const { Cell::new(false) };
 }
 
 /// The stack of the running thread, for which the C library is asked once.
 ///
 /// - A thread that was started has a block of its own, and the answer is that block without its guard page (with it
 ///   before glibc 2.27, which the reserve outweighs).
-/// - The first thread's stack grows as it is used. glibc answers with all that it may grow to by RLIMIT_STACK, and where
-///   the limit is none or large, with all that is free down to the mapping below. The kernel keeps the last 1 MiB of
-///   that free, which glibc does not know: see [`Stack::new`]. A limit that the program lowers later is not seen. musl
-///   answers with what the stack has grown to, which is too little, never too much.
+/// - The first thread's stack grows as it is used. glibc answers with all that it may grow to by RLIMIT_STACK, and
+///   where the limit is none or large, with all that is free down to the mapping below. The kernel keeps the last
+///   1 MiB of that free, which glibc does not know: see [`Stack::new`]. A limit that the program lowers later is not
+///   seen. musl answers with what the stack has grown to, which is too little, never too much.
 /// - Without /proc glibc cannot tell of the first thread. On a coroutine's stack no address is the thread's. Then each
 ///   call is made on a thread of its own.
 fn own_stack() -> Stack {
-    STACK.with(|known| {
-        let ask = || ffi::stack().map_or(Stack::UNKNOWN, |(low, size)| Stack::new(low, size));
-        let stack = known.get().unwrap_or_else(ask);
-        known.set(Some(stack));
-        stack
-    })
+    if !ASKED.with(|asked| asked.replace(true)) {
+        if let Some((low, size)) = ffi::stack() {
+            STACK.with(|stack| stack.set(Stack::new(low, size)));
+        }
+    }
+    STACK.with(Cell::get)
 }
 
 #[cfg(test)]
@@ -155,15 +165,16 @@ mod tests {
 
     const KILOBYTE: usize = 1 << 10;
 
-    /// The thread that a call is asked on, of so many bytes or, where the C library hands out a stack again, of up to four
-    /// times as many; and the thread that it is made on.
+    /// The thread that a call is asked on, of so many bytes or, where the C library hands out a stack again, of up to
+    /// four times as many; and the thread that it is made on.
     fn made_on(size: usize, need: usize) -> (ThreadId, ThreadId) {
         let from_there = move || {
             let mut on = None;
-            let reply = with(need, || {
+            let mut build = || {
                 on = Some(thread::current().id());
                 ffi::build(&[], &mut [])
-            });
+            };
+            let reply = with!(need, build());
             assert_eq!(reply.number, 2, "the reply comes back");
             (thread::current().id(), on.expect("the call was made"))
         };
@@ -171,18 +182,29 @@ mod tests {
         builder.spawn(from_there).unwrap().join().unwrap()
     }
 
+    /// 1234567 as 1,234,567
+    fn spaced(number: usize) -> String {
+        match number {
+            0..=999 => number.to_string(),
+            _ => format!("{},{:03}", spaced(number / 1_000), number % 1_000),
+        }
+    }
+
     #[test]
-    fn needs_are_the_headers() {
+    fn needs_are_the_headers_and_the_readmes() {
         let header = include_str!("../../include/kneukelboom.h");
-        for (name, need) in [
-            ("BUILD", build as fn(usize) -> usize),
-            ("WALK", walk),
-            ("MEET", meet),
+        let readme = include_str!("../README.md");
+        for (name, needs) in [
+            ("BUILD", [0, 1, SEGMENTS].map(build)),
+            ("WALK", [0, 1, SEGMENTS].map(walk)),
+            ("MEET", [0, 1, 2 * SEGMENTS].map(meet)),
         ] {
-            let (always, level) = (need(0), need(1) - need(0));
-            let said =
-                format!("KNEUKELBOOM_STACK_{name}(segments) ({always} + {level} * (segments))");
-            assert!(header.contains(&said), "{said}");
+            let [always, one, most] = needs;
+            let (level, most) = (one - always, spaced(most));
+            let said = format!("STACK_{name}(segments) ({always} + {level} * (segments))");
+            assert!(header.contains(&said), "the header has no {said}");
+            let said = format!("| {always} + {level} a level | {most} |");
+            assert!(readme.contains(&said), "the README has no {said}");
         }
     }
 
@@ -244,22 +266,26 @@ mod tests {
 
     #[test]
     fn a_call_that_does_not_fit_is_made_on_a_thread_of_its_own() {
-        for (size, need) in [(64, 256), (256, 1_024), (2_048, 8_192)] {
+        for (size, need) in [(64, 256), (256, 1_024), (512, 2_048), (256, 1 << 40)] {
             let (asked, made) = made_on(size * KILOBYTE, need * KILOBYTE);
             assert_ne!(asked, made, "{need} KB of {size}");
         }
     }
 
+    /// Are so many bytes free below a frame of 64 KB?
+    #[inline(never)]
+    fn is_free_further_down(need: usize) -> bool {
+        let frame = [0_u8; 64 * KILOBYTE];
+        black_box(&frame);
+        own_stack().holds(need, stack_pointer())
+    }
+
     #[test]
     fn a_frame_further_down_has_less_room() {
         let there = || {
-            let room = here() - own_stack().lowest;
-            assert!(own_stack().holds(room - KILOBYTE, here()));
-            let further_down = || {
-                let used = black_box([0_u8; 64 * KILOBYTE]);
-                own_stack().holds(room - used.len(), here())
-            };
-            assert!(!further_down());
+            let room = stack_pointer() - own_stack().lowest;
+            assert!(is_free_further_down(room - 66 * KILOBYTE));
+            assert!(!is_free_further_down(room - 64 * KILOBYTE));
         };
         let builder = thread::Builder::new().stack_size(512 * KILOBYTE);
         builder.spawn(there).unwrap().join().unwrap();
@@ -276,16 +302,18 @@ mod tests {
         assert!(room(8_192, 4_096, 3_072));
         assert!(room(8_192, 1_024, 0));
         assert!(room(64, 60, 44));
-        // In what stays free, above the stack, below it, and where nothing is known of it.
-        assert!(!Stack::new(LOW, 64 * KILOBYTE).holds(0, LOW + KILOBYTE));
-        assert!(!Stack::new(LOW, 64 * KILOBYTE).holds(0, LOW + 64 * KILOBYTE));
-        assert!(!Stack::new(LOW, 64 * KILOBYTE).holds(0, LOW - 1));
+        // In what stays free, above the stack, below it; all stays free of a small one; nothing is known of it.
+        let holds_none = |size: usize, address| !Stack::new(LOW, size * KILOBYTE).holds(0, address);
+        assert!(holds_none(64, LOW + KILOBYTE));
+        assert!(holds_none(64, LOW + 64 * KILOBYTE));
+        assert!(holds_none(64, LOW - 1));
+        assert!(holds_none(12, LOW + 11 * KILOBYTE));
         assert!(!Stack::UNKNOWN.holds(0, LOW));
     }
 
     #[test]
     #[should_panic(expected = "a thread that has them could not be started")]
     fn a_thread_that_cannot_be_started_is_a_panic() {
-        let _ = with(1 << 60, || ffi::build(&[], &mut []));
+        let _ = elsewhere(1 << 60, 1 << 60, &mut || ffi::build(&[], &mut []));
     }
 }

@@ -66,9 +66,8 @@ fn deep_lines_are_built() {
         let table = || Line::new(points).unwrap().table().to_vec();
         levels(&the_same_on_each_stack(table))
     };
-    for points in [comb(0), comb_ring()] {
+    for points in [comb(0), reversed(comb(0))] {
         assert_eq!(built(&points), SEGMENTS);
-        assert_eq!(built(&reversed(points)), SEGMENTS);
     }
     for points in [saw(0), reversed(saw(0))] {
         assert!(built(&points) > 3_000);
@@ -89,6 +88,7 @@ fn deep_lines_are_asked_for_points() {
 fn deep_rings_are_asked_for_points() {
     for points in [comb_ring(), reversed(comb_ring())] {
         let ring = Line::new(&points).unwrap();
+        assert_eq!(levels(ring.table()), SEGMENTS);
         for point in [(0, 0), (2_040, 0), (-2_048, 16_000), (-2_048, 16_001)] {
             let inside = || ring.inside(point, ring.enough_visits()).unwrap();
             assert!(the_same_on_each_stack(inside).decided().is_some());
