@@ -1,4 +1,5 @@
 -- What a record is answered, asked as a question over the stores of the two lines.
+use mathlib.Core.Path.{_≡_}
 use mathlib.Core.List.{List}
 use Prim.Native.Nat.{ℕ}
 use lib.IntN.{ℤ}
@@ -10,7 +11,10 @@ use Rattle.words.specs.declared.Record.the-variants.{Start, Pt, Near, In, Meet,
 use Rattle.desk.specs.Desk.{Store, refusedAt}
 use Rattle.ready.specs.declared.Needed.{Needed}
 use Rattle.ready.specs.declared.Needed.the-variants.{NoTable, TableA, BothTables}
+use Rattle.ready.specs.declared.TablesBuilt.{TablesBuilt}
+use Rattle.ready.specs.Left.{firstAfter, secondAfter, builtAfter}
 use Rattle.ready.specs.Readied.{withTables}
+use Rattle.answers.specs.declared.Replied.{Replied}
 
 -- NEAR and IN are asked of A, MEET and AGREE of both lines
 abbrev pub neededBy : Record → Needed
@@ -35,3 +39,11 @@ answerTo NotUnderstood place ps t qs t′ = refusedAt 12 NoLine place
 -- .. of two stores, whose tables are readied
 abbrev pub replyTo : Record → ℕ → Store → Store → Reply
 replyTo q place a b = withTables (neededBy q) a b place (λ t t′. answerTo q place (a .points) t (b .points) t′)
+
+-- ---- what is promised: the reply, what is left in the two tables, and which of them are built then
+pub record Replies (q : Record) (place : ℕ) (a b : Store) (was : TablesBuilt) (tableA tableB : List ℤ) (r : Replied)
+    (leftA leftB : List ℤ) : Type 0 where
+  pub reply : r .reply ≡ replyTo q place a b
+  pub first : leftA ≡ firstAfter (neededBy q) a tableA
+  pub second : leftB ≡ secondAfter (neededBy q) a b tableA tableB
+  pub built : r .built ≡ builtAfter (neededBy q) was a b tableA tableB

@@ -4,6 +4,7 @@ use desk::Held;
 use integers::wide;
 use ready::Needed;
 use ready::Readied;
+use ready::TablesBuilt;
 use ready::ready_for;
 use ready::refused;
 use ready::rows;
@@ -13,12 +14,17 @@ use rules::Point;
 use rules::Reply;
 use words::Record;
 ghost use mathlib.Core.Path.{_≡_};
-ghost use lib.ListN.{length};
 ghost use Rattle.rules.specs.Build.{tableOf};
-ghost use Rattle.desk.specs.Kept.{storeIn, Stored, tableRoom};
-ghost use Rattle.ready.specs.Readied.{HasRows};
-ghost use Rattle.ready.specs.Left.{firstAfter, secondAfter};
-ghost use Rattle.answers.specs.Asked.{neededBy, answerTo, replyTo};
+ghost use Rattle.desk.specs.Kept.{storeIn};
+ghost use Rattle.ready.specs.Readied.{LentLine, HasRows};
+ghost use Rattle.ready.specs.Left.{builtOf};
+ghost use Rattle.answers.specs.Asked.{neededBy, answerTo, Replies};
+
+// A reply, and which tables are built once it is given.
+pub struct Replied {
+    pub reply: Reply,
+    pub built: TablesBuilt,
+}
 
 // The tables that a record needs.
 fn needed_by(record: Record) -> Needed
@@ -97,18 +103,14 @@ pub fn reply(
     held_b: Held,
     points_b: &[i32],
     table_b: &mut [i32],
-) -> Reply
-    requires { ⌜ Stored «held_a» (now «points_a») × (length (now «table_a») ≡ tableRoom) ⌝ }
-    requires { ⌜ Stored «held_b» (now «points_b») × (length (now «table_b») ≡ tableRoom) ⌝ }
-    ensures { λ r. ⌜ r ≡ replyTo «record» place (storeIn «held_a» (now («points_a» .entry)))
-        (storeIn «held_b» (now («points_b» .entry))) ⌝ }
-    ensures { λ _. ⌜ now («table_a» .exit) ≡ firstAfter (neededBy «record»)
-        (storeIn «held_a» (now («points_a» .entry))) (now («table_a» .entry)) ⌝ }
-    ensures { λ _. ⌜ now («table_b» .exit) ≡ secondAfter (neededBy «record»)
-        (storeIn «held_a» (now («points_a» .entry))) (storeIn «held_b» (now («points_b» .entry)))
-        (now («table_a» .entry)) (now («table_b» .entry)) ⌝ }
+) -> Replied
+    requires { ⌜ LentLine «held_a» (now «points_a») (now «table_a») ⌝ }
+    requires { ⌜ LentLine «held_b» (now «points_b») (now «table_b») ⌝ }
+    ensures { λ r. ⌜ Replies «record» place (storeIn «held_a» (now («points_a» .entry)))
+        (storeIn «held_b» (now («points_b» .entry))) (builtOf «held_a» «held_b»)
+        (now («table_a» .entry)) (now («table_b» .entry)) r (now («table_a» .exit)) (now («table_b» .exit)) ⌝ }
 {
-    let readied = ready_for(
+    let prepared = ready_for(
         needed_by(record),
         held_a,
         points_a,
@@ -118,15 +120,18 @@ pub fn reply(
         table_b,
         place,
     );
+    let readied = prepared.readied;
+    let built = prepared.built;
     if let Readied::Told(told) = readied {
-        return told;
+        return Replied { reply: told, built };
     }
-    ask(
+    let reply = ask(
         record,
         place,
         stored(held_a, points_a),
         table_a,
         stored(held_b, points_b),
         table_b,
-    )
+    );
+    Replied { reply, built }
 }

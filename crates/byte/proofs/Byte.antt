@@ -18,11 +18,13 @@ use Rattle.desk.specs.Desk.{Desk, takeText, saidBytes, bytesOf}
 use Rattle.desk.specs.Chunks.{Carry, printByte, carryChunk, printChunk}
 use Rattle.desk.specs.Kept.{keptBytes}
 use Rattle.desk.proofs.Chunks.{carried, printing, carry-byte, print-byte}
+use Rattle.ready.specs.declared.TablesBuilt.{TablesBuilt}
 use Rattle.store.specs.declared.State.{State}
 use Rattle.store.specs.declared.Outcome.{Outcome}
 use Rattle.store.specs.States.{keptLeft, withPending, heard, Keeps}
 use Rattle.store.proofs.Texts.{pending-bytes}
 use Rattle.records.specs.Left.{Numbers, Slices, textLeft, byteLeft, chunkLeft}
+use Rattle.records.specs.Built.{builtIn, textBuilt, byteBuilt, chunkBuilt}
 use Rattle.records.specs.Carried.{deskOf, Bounds}
 use Rattle.records.specs.Takes.{TakesText}
 use Rattle.byte.specs.Feeds.{carryOf, Feeds}
@@ -44,6 +46,15 @@ module _ (c : Carry) (b : ℕ) where
   pub left-one : (l : Slices) {k : Bool} → eqb b lineFeed ≡ k → chunkLeft c l (b ∷ []) ≡ leaving l k
   unfolding chunkLeft byteLeft
   left-one l e = ap (leaving l) e
+
+  -- which tables are built then
+  abbrev building : Slices → TablesBuilt → Bool → TablesBuilt
+  building l k feed = cond feed (textBuilt (c .desk) (l .numbers .tables) k (c .pending)) k
+
+  built-one : (l : Slices) (k : TablesBuilt) {feed : Bool} → eqb b lineFeed ≡ feed
+      → chunkBuilt c l k (b ∷ []) ≡ building l k feed
+  unfolding chunkBuilt byteBuilt
+  built-one l k e = ap (building l k) e
 
   -- A byte prints one line at most.
   said-fits : (r : Option Reply) (ordinal : ℕ) → length (saidBytes r ordinal) ≤ widest
@@ -74,6 +85,7 @@ module _ {s : State} (l : Slices) (bounds : Bounds s) {byte : ℕ} (out : List �
       record {
         carried = (λ i. record { desk = desk (k .state i); pending = k .bytes i }) ∙ sym (carry-one c byte e);
         left = (λ i. record { numbers = l .numbers; text = left i }) ∙ sym (left-one c byte l e);
+        built = ap builtIn (k .state) ∙ sym (built-one c byte l (builtIn s) e);
         printed = put-same (sym (print-one c byte e)) (put-none out at);
         bounds = subst Bounds (sym (k .state)) within;
         read = omega arith;
@@ -85,13 +97,14 @@ module _ {s : State} (l : Slices) (bounds : Bounds s) {byte : ℕ} (out : List �
       Put out at (saidBytes (heard (t .speech)) (t .state .printed)) out′ next →
       Feeds s l (byte ∷ []) out at (record { state = t .state; wrote = next }) (record { numbers = n; text = l .text })
       out′
-  byte-ends n feed (taken, left) put =
+  byte-ends n feed (taken, left, built) put =
       let c = carryOf s l in
       let e = eq-eqb byte lineFeed feed in
       record {
         carried = (λ i. record { desk = taken .taken i .desk; pending = take (taken .pending i) (l .text) })
             ∙ sym (carry-one c byte e);
         left = (λ i. record { numbers = left i; text = l .text }) ∙ sym (left-one c byte l e);
+        built = built ∙ sym (built-one c byte l (builtIn s) e);
         printed = put-same (ap bytesOf (taken .taken) ∙ sym (print-one c byte e)) put;
         bounds = taken .bounds;
         read = omega arith;

@@ -1,2 +1,3 @@
--- What one byte comes to.
+-- What one byte comes to, and which tables are built past bytes.
 pub mod Byte
+pub mod Stay

@@ -12,8 +12,10 @@ use Rattle.print.proofs.Writing.{put-same, put-none, put-behind}
 use Rattle.desk.specs.Chunks.{Carry, carryByte, carryChunk, printChunk}
 use Rattle.desk.specs.Kept.{keptBytes}
 use Rattle.desk.proofs.Chunks.{carry-append, print-append}
+use Rattle.ready.specs.declared.TablesBuilt.{TablesBuilt}
 use Rattle.store.specs.declared.State.{State}
 use Rattle.records.specs.Left.{Slices, byteLeft, chunkLeft}
+use Rattle.records.specs.Built.{builtIn, byteBuilt, chunkBuilt}
 use Rattle.records.specs.Carried.{Lent, Bounds}
 use Rattle.byte.specs.declared.Fed.{Fed}
 use Rattle.byte.specs.Feeds.{carryOf, Feeds}
@@ -24,6 +26,12 @@ pub left-append : (c : Carry) (l : Slices) (xs ys : List ℕ) →
 unfolding chunkLeft carryChunk
 left-append c l [] ys = refl
 left-append c l (x ∷ xs) ys = left-append (carryByte c x) (byteLeft c l x) xs ys
+
+pub built-append : (c : Carry) (l : Slices) (k : TablesBuilt) (xs ys : List ℕ) →
+    chunkBuilt c l k (xs ++ ys) ≡ chunkBuilt (carryChunk c xs) (chunkLeft c l xs) (chunkBuilt c l k xs) ys
+unfolding chunkLeft carryChunk chunkBuilt
+built-append c l k [] ys = refl
+built-append c l k (x ∷ xs) ys = built-append (carryByte c x) (byteLeft c l x) (byteBuilt c l k x) xs ys
 
 -- What bytes come to, and then more bytes, is what they come to together.
 feeds-behind : {s : State} {l l′ l″ : Slices} {xs ys before out out′ : List ℕ} {at : ℕ} {r r′ : Fed} →
@@ -36,6 +44,8 @@ feeds-behind {s} {l} {xs = xs} {ys = ys} {before = before} {at = at} inside f g 
     record {
       carried = g .carried ∙ ap (λ (d : Carry). carryChunk d ys) step ∙ sym (carry-append c xs ys);
       left = g .left ∙ (λ i. chunkLeft (step i) (f .left i) ys) ∙ sym (left-append c l xs ys);
+      built = g .built ∙ (λ i. chunkBuilt (step i) (f .left i) (f .built i) ys)
+          ∙ sym (built-append c l (builtIn s) xs ys);
       printed = put-same together (put-behind before at inside (printChunk c xs) (f .printed) (g .printed));
       bounds = g .bounds;
       read = let l = f .read in let m = g .read in let both = length-append xs ys in omega arith;
@@ -58,11 +68,18 @@ module _ (s : State) (l : Slices) (chunk before : List ℕ) where
 
   -- At first none is fed.
   pub fed-none : Sizes l → Bounds s → FedFirst 0 (record { state = s; wrote = 0 }) l before
-  unfolding carryChunk chunkLeft printChunk
+  unfolding carryChunk chunkLeft chunkBuilt printChunk
   fed-none sizes bounds =
       let none = put-none before 0 in
       let feeds : Feeds s l [] before 0 (record { state = s; wrote = 0 }) l before =
-      record { carried = refl; left = refl; printed = none; bounds = bounds; read = omega arith } in
+      record {
+        carried = refl;
+        left = refl;
+        built = refl;
+        printed = none;
+        bounds = bounds;
+        read = omega arith;
+      } in
       record { feeds = feeds; sizes = sizes; same = refl; within = omega arith; short = omega arith }
 
 module _ {s : State} {l after : Slices} {chunk before out : List ℕ} {i : ℕ} {r : Fed}

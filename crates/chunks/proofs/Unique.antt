@@ -27,6 +27,7 @@ use Rattle.store.specs.States.{heard}
 use Rattle.store.proofs.Stores.{point-size, held-unique}
 use Rattle.store.proofs.Texts.{pending-bytes, kept-size}
 use Rattle.records.specs.Left.{Both, Numbers, Slices, slices, storesLeft, recordLeft, textLeft, byteLeft, chunkLeft}
+use Rattle.records.specs.Built.{builtIn, noneBuilt}
 use Rattle.records.specs.Carried.{Bounds}
 use Rattle.records.specs.Takes.{TakesText}
 use Rattle.byte.specs.declared.Fed.{Fed}
@@ -89,12 +90,12 @@ module _ {s : State} {l : Slices} (size : Sized l) (k : Bounds s) where
   stored-b : Stored (s .b) (l .numbers .stores .b)
   stored-b = record { whole = size .store-b; counted = k .count-b }
 
--- The same carry is carried by the same state.
+-- The same carry, and the same tables built, are carried by the same state.
 pub state-unique : {s s′ : State} {l l′ : Slices} →
-    Sized l → Sized l′ → Bounds s → Bounds s′ → carryOf s l ≡ carryOf s′ l′ → s ≡ s′
-state-unique {s} {s′} {l} {l′} size size′ k k′ e =
-    let held-a = held-unique (stored-a size k) (stored-a size′ k′) (λ i. e i .desk .a) in
-    let held-b = held-unique (stored-b size k) (stored-b size′ k′) (λ i. e i .desk .b) in
+    Sized l → Sized l′ → Bounds s → Bounds s′ → carryOf s l ≡ carryOf s′ l′ → builtIn s ≡ builtIn s′ → s ≡ s′
+state-unique {s} {s′} {l} {l′} size size′ k k′ e built =
+    let held-a = held-unique (stored-a size k) (stored-a size′ k′) (λ i. e i .desk .a) (λ i. built i .a) in
+    let held-b = held-unique (stored-b size k) (stored-b size′ k′) (λ i. e i .desk .b) (λ i. built i .b) in
     let many = pending-bytes (l .text) (size .text) (k .kept) in
     let many′ = pending-bytes (l′ .text) (size′ .text) (k′ .kept) in
     let kept : s .pending ≡ s′ .pending = many ∙ ap (λ (c : Carry). length (c .pending)) e ∙ sym many′ in
@@ -119,7 +120,7 @@ speech-unique (Says said) (Says said′) e = cc
 -- Two outcomes of a text line are equal: the state and what is said, and every lent number.
 pub takes-unique : (s : State) {l : Slices} (text : List ℕ) {r r′ : Outcome} {after after′ : Numbers} → Sized l →
     TakesText s text (l .numbers) r after → TakesText s text (l .numbers) r′ after′ → (r ≡ r′) × (after ≡ after′)
-takes-unique s {l} text {r} {r′} size (f, left) (g, left′) =
+takes-unique s {l} text {r} {r′} size (f, left, built) (g, left′, built′) =
     let Fits : Numbers → Type 0 = λ n. Sized (record { numbers = n; text = l .text }) in
     let sized = text-sized (carryOf s l .desk) l text size in
     let fits = subst Fits (sym left) sized in
@@ -127,7 +128,7 @@ takes-unique s {l} text {r} {r′} size (f, left) (g, left′) =
     let same = f .taken ∙ sym (g .taken) in
     let pending = f .pending ∙ sym (g .pending) in
     let state = state-unique fits fits′ (f .bounds) (g .bounds)
-    (λ i. record { desk = same i .desk; pending = take (pending i) (l .text) }) in
+    (λ i. record { desk = same i .desk; pending = take (pending i) (l .text) }) (built ∙ sym built′) in
     let speech = speech-unique (r .speech) (r′ .speech) (λ i. same i .said) in
     ((λ i. record { state = state i; speech = speech i }), left ∙ sym left′)
 
@@ -139,7 +140,8 @@ feeds-unique {s} {l} {chunk = chunk} size f g =
     let left = chunk-sized (carryOf s l) l chunk size in
     let size-f = subst Sized (sym (f .left)) left in
     let size-g = subst Sized (sym (g .left)) left in
-    let state = state-unique size-f size-g (f .bounds) (g .bounds) (f .carried ∙ sym (g .carried)) in
+    let state = state-unique size-f size-g (f .bounds) (g .bounds) (f .carried ∙ sym (g .carried))
+    (f .built ∙ sym (g .built)) in
     let put = put-unique (f .printed) (g .printed) in
     ((λ i. record { state = state i; wrote = put .1 i }), f .left ∙ sym (g .left), put .0)
 
@@ -150,10 +152,11 @@ finishes-unique f g = let put = put-unique (f .printed) (g .printed) in (put .1,
 
 -- Two states that are opened are equal.
 pub opened-unique : {r r′ : State} →
-    ((l : Slices) → carryOf r l ≡ begun) → ((l : Slices) → carryOf r′ l ≡ begun) → Bounds r → Bounds r′ → r ≡ r′
-opened-unique e f k k′ =
+    ((l : Slices) → carryOf r l ≡ begun) → ((l : Slices) → carryOf r′ l ≡ begun) → Bounds r → Bounds r′ →
+    builtIn r ≡ noneBuilt → builtIn r′ ≡ noneBuilt → r ≡ r′
+opened-unique e f k k′ none none′ =
     let store = replicate (2 * room) (pos 0) in
     let l = slices store store [] [] (replicate {A = ℕ} keptBytes 0) in
     let whole = length-replicate (2 * room) (pos 0) in
     let size : Sized l = record { store-a = whole; store-b = whole; text = length-replicate {A = ℕ} keptBytes 0 } in
-    state-unique size size k k′ (e l ∙ sym (f l))
+    state-unique size size k k′ (e l ∙ sym (f l)) (none ∙ sym none′)

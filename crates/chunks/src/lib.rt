@@ -10,8 +10,9 @@ ghost use Prim.Native.Nat.{_+_, _*_, _≤_, _<_, _^_};
 ghost use lib.ListN.{length};
 ghost use Rattle.print.specs.Printed.{widest};
 ghost use Rattle.desk.specs.Chunks.{begun};
-ghost use Rattle.desk.specs.Kept.{keptBytes};
-ghost use Rattle.records.specs.Left.{Slices, slices};
+ghost use Rattle.desk.specs.Kept.{storeIn, keptBytes};
+ghost use Rattle.records.specs.Left.{both, Slices, slices};
+ghost use Rattle.records.specs.Built.{builtIn, noneBuilt, AllAsBuilt};
 ghost use Rattle.records.specs.Carried.{Lent, Bounds};
 ghost use Rattle.byte.specs.Feeds.{carryOf, Feeds};
 ghost use Rattle.chunks.specs.Finishes.{Finishes};
@@ -19,10 +20,12 @@ ghost use Rattle.chunks.specs.Finishes.{Finishes};
 pub fn opened() -> State
     ensures { λ r. ⌜ ((l : Slices) → carryOf r l ≡ begun) ⌝ }
     ensures { λ r. ⌜ Bounds r ⌝ }
+    ensures { λ r. ⌜ builtIn r ≡ noneBuilt ⌝ }
 {
     let none = Held {
         count: 0,
         over: false,
+        built: false,
     };
     State {
         target: Line::NoLine,
@@ -45,7 +48,9 @@ pub fn feed(
     chunk: &[u8],
     out: &mut [u8],
 ) -> Fed
-    requires { ⌜ Lent (now a) (now b) (now «table_a») (now «table_b») × Bounds state ⌝ }
+    requires { ⌜ Lent (now a) (now b) (now «table_a») (now «table_b») × Bounds state
+        × AllAsBuilt (builtIn state) (storeIn (state .a) (now a)) (storeIn (state .b) (now b))
+        (both (now «table_a») (now «table_b»)) ⌝ }
     requires { ⌜ (length (now text) ≡ keptBytes) × (widest * length (now chunk) ≤ length (now out)) ⌝ }
     requires { ⌜ state .read + length (now chunk) < 2 ^ 64 ⌝ }
     ensures { λ r. ⌜ Feeds state
@@ -73,7 +78,9 @@ pub fn finish(
     text: &mut [u8],
     out: &mut [u8],
 ) -> usize
-    requires { ⌜ Lent (now a) (now b) (now «table_a») (now «table_b») × Bounds state ⌝ }
+    requires { ⌜ Lent (now a) (now b) (now «table_a») (now «table_b») × Bounds state
+        × AllAsBuilt (builtIn state) (storeIn (state .a) (now a)) (storeIn (state .b) (now b))
+        (both (now «table_a») (now «table_b»)) ⌝ }
     requires { ⌜ (length (now text) ≡ keptBytes) × (widest ≤ length (now out)) ⌝ }
     requires { ⌜ state .read + 1 < 2 ^ 64 ⌝ }
     ensures { λ r. ⌜ Finishes state

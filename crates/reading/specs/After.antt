@@ -1,5 +1,5 @@
 -- What the program holds once bytes are read, however many: its state and the slices are what the definitions carry and
--- leave past these bytes, from a program that has begun and from slices of zeros.
+-- leave past these bytes, from a program that has begun, from slices of zeros, and with no table built.
 use mathlib.Core.Path.{_≡_}
 use mathlib.Core.List.{List}
 use Prim.Native.Nat.{ℕ, _*_, _≤_}
@@ -10,6 +10,7 @@ use Rattle.desk.specs.Chunks.{begun, carryChunk}
 use Rattle.desk.specs.Kept.{tableRoom, keptBytes}
 use Rattle.store.specs.declared.State.{State}
 use Rattle.records.specs.Left.{Slices, slices, chunkLeft}
+use Rattle.records.specs.Built.{builtIn, noneBuilt, chunkBuilt}
 use Rattle.records.specs.Carried.{Bounds}
 use Rattle.byte.specs.Feeds.{carryOf}
 
@@ -28,6 +29,7 @@ zeros =
 pub record After (input : List ℕ) (s : State) (l : Slices) : Type 0 where
   pub carried : carryOf s l ≡ carryChunk begun input
   pub left : l ≡ chunkLeft begun zeros input
+  pub built : builtIn s ≡ chunkBuilt begun zeros noneBuilt input
   pub bounds : Bounds s
   pub read : s .read ≤ length input
 

@@ -1,5 +1,5 @@
 -- A table with room refuses what the described table refuses, and so what a build says is what `withTable` goes by;
--- and what readying a line leaves in its table.
+-- and what readying a line leaves in its table, and leaves there again.
 use mathlib.Core.Path.{_≡_, refl, sym, ap, _∙_, subst}
 use mathlib.Core.Bool.{Bool, true, false, cond, false≢true}
 use mathlib.Core.List.{List, [], _∷_, _++_}
@@ -21,13 +21,14 @@ use Rattle.rules.specs.Rows.{pointChecks}
 use Rattle.rules.specs.Build.{sheetCheck, neighbourCheck, buildRefusal, tableOf, builtTable}
 use Rattle.table_truth.specs.Accepted.{rowNumbers}
 use Rattle.table_truth.proofs.Rows.{≤-or->}
-use Rattle.table_truth.proofs.Refusals.{accepted}
-use Rattle.table_truth.proofs.Table.{table-length, built-rows, built-length}
+use Rattle.table_truth.proofs.Refusals.{accepted, none-refused}
+use Rattle.table_truth.proofs.Table.{table-length, built-rows, built-length, built-accepted, built-twice}
 use Rattle.desk.specs.declared.Held.{Held}
 use Rattle.desk.specs.Desk.{Store, refusedAt, onBuild, withTable}
 use Rattle.desk.specs.Kept.{storeIn, Stored, tableRoom}
-use Rattle.ready.specs.Readied.{Rows}
-use Rattle.ready.specs.Left.{clear, isReady, tableAfter}
+use Rattle.ready.specs.declared.Readied.the-variants.{Ready}
+use Rattle.ready.specs.Readied.{Rows, ReadiesLine}
+use Rattle.ready.specs.Left.{clear, isReady, tableAfter, StaysReady}
 
 -- ---------------- a refusal does not depend on a table that is long enough
 
@@ -87,13 +88,45 @@ module _ (s : Store) (t : List ℤ) {over : Bool} (p : s .over ≡ over) where
   unfolding tableAfter
   table-is = sym (ap (λ (k : Bool). cond k t (builtTable (s .points) t)) p)
 
--- where a line stands ready, its rows stand in its table
-pub rows-ready : (s : Store) (t : List ℤ) → isReady s t ≡ true → Rows (s .points) (tableAfter s t)
+-- a line that stands ready is not under 13, and its build refuses nothing
+by-ready : {A : Type 0} (s : Store) (t : List ℤ) → isReady s t ≡ true
+    → (s .over ≡ false → buildRefusal (s .points) t ≡ none → A) → A
 unfolding isReady
-rows-ready s t e = go (s .over) (buildRefusal (s .points) t) refl refl e
+by-ready {A} s t e f = go (s .over) (buildRefusal (s .points) t) refl refl e
   where
     go : (over : Bool) (o : Option Refusal) → s .over ≡ over → buildRefusal (s .points) t ≡ o
-        → cond over false (clear o) ≡ true → Rows (s .points) (tableAfter s t)
+        → cond over false (clear o) ≡ true → A
     go true o p q h = absurd (false≢true h)
-    go false none p q h = subst (Rows (s .points)) (table-is s t p) (rows-stand (s .points) t q)
+    go false none p q h = f p q
     go false (some r) p q h = absurd (false≢true h)
+
+-- where a line stands ready, its rows stand in its table
+pub rows-ready : (s : Store) (t : List ℤ) → isReady s t ≡ true → Rows (s .points) (tableAfter s t)
+rows-ready s t e =
+    by-ready s t e (λ p q. subst (Rows (s .points)) (table-is s t p) (rows-stand (s .points) t q))
+
+-- ---------------- a table that is kept
+
+-- a line that is readied stays ready
+pub stays-ready : (s : Store) (t : List ℤ) → isReady s t ≡ true → StaysReady s (tableAfter s t)
+stays-ready s t e =
+    by-ready s t e
+    (λ p q.
+    let ps = s .points in
+    let u = builtTable ps t in
+    let built : StaysReady s u =
+    record {
+      ready = sym (ready-is s u p (none-refused ps u (built-accepted ps t q)));
+      same = sym (table-is s u p) ∙ built-twice ps t;
+    } in
+    subst (StaysReady s) (table-is s t p) built)
+
+-- to keep the table of a line that stays ready says and leaves what to build it says and leaves
+pub kept-same : (l : Line) (s : Store) (place : ℕ) {t : List ℤ} → StaysReady s t → ReadiesLine l s place t Ready t
+kept-same l s place {t} h =
+    by-ready s t (h .ready)
+    (λ p q. record {
+      reply = λ go. with-table l s place go t (accepted (s .points) t q .lengths .table-long) p q;
+      goes = sym (h .ready);
+      left = sym (h .same);
+    })

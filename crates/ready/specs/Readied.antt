@@ -11,12 +11,22 @@ use Rattle.rules.specs.Sheet.{pointsOf, fewest}
 use Rattle.rules.specs.declared.Reply.{Reply}
 use Rattle.rules.specs.Build.{tableOf}
 use Rattle.table_truth.specs.Accepted.{rowNumbers}
+use Rattle.desk.specs.declared.Held.{Held}
 use Rattle.desk.specs.Desk.{Store, withTable}
+use Rattle.desk.specs.Kept.{storeIn, Stored, tableRoom}
 use Rattle.ready.specs.declared.Needed.{Needed}
 use Rattle.ready.specs.declared.Needed.the-variants.{NoTable, TableA, BothTables}
 use Rattle.ready.specs.declared.Readied.{Readied}
 use Rattle.ready.specs.declared.Readied.the-variants.{Ready, Told}
-use Rattle.ready.specs.Left.{isReady, tableAfter, standReady, firstAfter, secondAfter}
+use Rattle.ready.specs.declared.TablesBuilt.{TablesBuilt}
+use Rattle.ready.specs.declared.Prepared.{Prepared}
+use Rattle.ready.specs.Left.{isReady, tableAfter, standReady, firstAfter, secondAfter, builtAfter, AsBuilt}
+
+-- ---- a line as it is lent: its store, a table of its size, and a table that is built is as its build left it
+pub record LentLine (h : Held) (numbers table : List ℤ) : Type 0 where
+  pub stored : Stored h numbers
+  pub room : length table ≡ tableRoom
+  pub built : AsBuilt (h .built) (storeIn h numbers) table
 
 -- ---- the reply of a question whose tables stand ready, or what is told in its place
 abbrev pub readiedReply : Readied → Reply → Reply
@@ -53,10 +63,11 @@ pub record ReadiesLine (l : Line) (s : Store) (place : ℕ) (table : List ℤ) (
   pub left : after ≡ tableAfter s table
 
 -- .. and the tables that are needed
-pub record Readies (k : Needed) (a b : Store) (place : ℕ) (tableA tableB : List ℤ) (r : Readied) (leftA leftB : List ℤ)
-    : Type 0 where
+pub record Readies (k : Needed) (a b : Store) (place : ℕ) (was : TablesBuilt) (tableA tableB : List ℤ) (r : Prepared)
+    (leftA leftB : List ℤ) : Type 0 where
   pub reply : (go : List ℤ → List ℤ → Reply)
-      → readiedReply r (go (tableOf (a .points)) (tableOf (b .points))) ≡ withTables k a b place go
-  pub goes : goesOn r ≡ standReady k a b tableA tableB
+      → readiedReply (r .readied) (go (tableOf (a .points)) (tableOf (b .points))) ≡ withTables k a b place go
+  pub goes : goesOn (r .readied) ≡ standReady k a b tableA tableB
   pub first : leftA ≡ firstAfter k a tableA
   pub second : leftB ≡ secondAfter k a b tableA tableB
+  pub built : r .built ≡ builtAfter k was a b tableA tableB

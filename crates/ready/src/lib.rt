@@ -1,6 +1,7 @@
 // The tables of a question of the question program, readied from the stores of its lines: A's, then B's if needed. A
 // line under 13 is refused in place of its build, and a refused A means that B is not built. The lent tables hold what
-// is built, and nothing else in them changes.
+// is built, and nothing else in them changes. A table that is built already is not built again: that would change
+// nothing.
 use desk::Held;
 use limits::WIDTH;
 use rules::Built;
@@ -9,11 +10,11 @@ use rules::Refusal;
 use rules::Reply;
 use rules::refuses;
 ghost use mathlib.Core.Path.{_≡_};
-ghost use lib.ListN.{length};
 ghost use Rattle.rules.specs.Build.{tableOf};
 ghost use Rattle.rules.specs.Reply.{refuses};
-ghost use Rattle.desk.specs.Kept.{storeIn, Stored, tableRoom};
-ghost use Rattle.ready.specs.Readied.{Rows, ReadiesLine, Readies};
+ghost use Rattle.desk.specs.Kept.{storeIn, Stored};
+ghost use Rattle.ready.specs.Left.{builtOf};
+ghost use Rattle.ready.specs.Readied.{goesOn, LentLine, Rows, ReadiesLine, Readies};
 
 // The tables that are needed.
 pub enum Needed {
@@ -26,6 +27,18 @@ pub enum Needed {
 pub enum Readied {
     Ready,
     Told(Reply),
+}
+
+// Which of the two tables are built from the stores as they are.
+pub struct TablesBuilt {
+    pub a: bool,
+    pub b: bool,
+}
+
+// What readying the tables of a question comes to, and which of them are built then.
+pub struct Prepared {
+    pub readied: Readied,
+    pub built: TablesBuilt,
 }
 
 // The points of a line, out of its store.
@@ -59,12 +72,26 @@ pub fn refused(number: u32, line: Line, place: usize, visits: u32) -> Reply
     })
 }
 
-// Builds the table of a line from its store, or tells why not: 13 in place of the build, or what the build refused.
+fn goes_on(readied: Readied) -> bool
+    ensures { λ r. ⌜ r ≡ goesOn readied ⌝ }
+{
+    if let Readied::Ready = readied {
+        true
+    } else {
+        false
+    }
+}
+
+// Builds the table of a line from its store, unless it is built, or tells why not: 13 in place of the build, or what
+// the build refused.
 fn ready(line: Line, held: Held, points: &[i32], table: &mut [i32], place: usize) -> Readied
-    requires { ⌜ Stored held (now points) × (length (now table) ≡ tableRoom) ⌝ }
+    requires { ⌜ LentLine held (now points) (now table) ⌝ }
     ensures { λ r. ⌜ ReadiesLine line (storeIn held (now (points .entry))) place
         (now (table .entry)) r (now (table .exit)) ⌝ }
 {
+    if held.built {
+        return Readied::Ready;
+    }
     if held.over {
         return Readied::Told(refused(13, line, place, 0));
     }
@@ -84,18 +111,31 @@ fn ready_both(
     points_b: &[i32],
     table_b: &mut [i32],
     place: usize,
-) -> Readied
-    requires { ⌜ Stored «held_a» (now «points_a») × (length (now «table_a») ≡ tableRoom) ⌝ }
-    requires { ⌜ Stored «held_b» (now «points_b») × (length (now «table_b») ≡ tableRoom) ⌝ }
+) -> Prepared
+    requires { ⌜ LentLine «held_a» (now «points_a») (now «table_a») ⌝ }
+    requires { ⌜ LentLine «held_b» (now «points_b») (now «table_b») ⌝ }
     ensures { λ r. ⌜ Readies Needed.BothTables (storeIn «held_a» (now («points_a» .entry)))
-        (storeIn «held_b» (now («points_b» .entry))) place (now («table_a» .entry)) (now («table_b» .entry))
-        r (now («table_a» .exit)) (now («table_b» .exit)) ⌝ }
+        (storeIn «held_b» (now («points_b» .entry))) place (builtOf «held_a» «held_b»)
+        (now («table_a» .entry)) (now («table_b» .entry)) r (now («table_a» .exit)) (now («table_b» .exit)) ⌝ }
 {
-    let readied = ready(Line::LineA, held_a, points_a, table_a, place);
-    let Readied::Ready = readied else {
-        return readied;
+    let first = ready(Line::LineA, held_a, points_a, table_a, place);
+    let Readied::Ready = first else {
+        return Prepared {
+            readied: first,
+            built: TablesBuilt {
+                a: false,
+                b: held_b.built,
+            },
+        };
     };
-    ready(Line::LineB, held_b, points_b, table_b, place)
+    let second = ready(Line::LineB, held_b, points_b, table_b, place);
+    Prepared {
+        readied: second,
+        built: TablesBuilt {
+            a: true,
+            b: goes_on(second),
+        },
+    }
 }
 
 // The tables that are needed, and no others.
@@ -108,16 +148,31 @@ pub fn ready_for(
     points_b: &[i32],
     table_b: &mut [i32],
     place: usize,
-) -> Readied
-    requires { ⌜ Stored «held_a» (now «points_a») × (length (now «table_a») ≡ tableRoom) ⌝ }
-    requires { ⌜ Stored «held_b» (now «points_b») × (length (now «table_b») ≡ tableRoom) ⌝ }
+) -> Prepared
+    requires { ⌜ LentLine «held_a» (now «points_a») (now «table_a») ⌝ }
+    requires { ⌜ LentLine «held_b» (now «points_b») (now «table_b») ⌝ }
     ensures { λ r. ⌜ Readies needed (storeIn «held_a» (now («points_a» .entry)))
-        (storeIn «held_b» (now («points_b» .entry))) place (now («table_a» .entry)) (now («table_b» .entry))
-        r (now («table_a» .exit)) (now («table_b» .exit)) ⌝ }
+        (storeIn «held_b» (now («points_b» .entry))) place (builtOf «held_a» «held_b»)
+        (now («table_a» .entry)) (now («table_b» .entry)) r (now («table_a» .exit)) (now («table_b» .exit)) ⌝ }
 {
     match needed {
-        Needed::NoTable => Readied::Ready,
-        Needed::TableA => ready(Line::LineA, held_a, points_a, table_a, place),
+        Needed::NoTable => Prepared {
+            readied: Readied::Ready,
+            built: TablesBuilt {
+                a: held_a.built,
+                b: held_b.built,
+            },
+        },
+        Needed::TableA => {
+            let readied = ready(Line::LineA, held_a, points_a, table_a, place);
+            Prepared {
+                readied,
+                built: TablesBuilt {
+                    a: goes_on(readied),
+                    b: held_b.built,
+                },
+            }
+        }
         Needed::BothTables => ready_both(
             held_a,
             points_a,

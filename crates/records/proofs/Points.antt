@@ -13,18 +13,13 @@ use Rattle.desk.specs.Desk.{Store, room, Desk, storeOf, putStore, Taken, quiet,
 use Rattle.desk.specs.Kept.{storeIn, Stored}
 use Rattle.store.specs.declared.State.{State}
 use Rattle.store.specs.declared.Outcome.{Outcome}
-use Rattle.store.specs.States.{pointLeft, withPoint, withA, withB, quietly, sayingly}
+use Rattle.store.specs.States.{pointLeft, withPoint, Adds, withA, withB, quietly, sayingly}
 use Rattle.store.proofs.Stores.{points-counted}
 use Rattle.records.specs.Left.{both, storesLeft}
+use Rattle.records.specs.Built.{builtIn, pointsChange}
 use Rattle.records.specs.Carried.{deskOf}
 use Rattle.records.specs.Takes.{Ready, Takes, pointSaid, TakesPoint}
 use Rattle.records.proofs.Desks.{Same, InRoom, quiet-takes, saying-takes}
-
--- what `add_point` promises
-abbrev Adds : Held → List ℤ → ℤ → ℤ → Held → List ℤ → Type 0
-Adds held numbers x y h after =
-    (storeIn h after ≡ withPoint (storeIn held numbers) x y)
-    × ((h .count ≤ room) × (after ≡ pointLeft (held .count) numbers x y))
 
 -- ---------------- a point for a line
 module _ (d : Desk) (l : Line) (x y : ℤ) where
@@ -34,7 +29,7 @@ module _ (d : Desk) (l : Line) (x y : ℤ) where
   abbrev past : Store
   past = record { points = storeOf d l .points; over = true }
 
-  module _ {s u : State} (ready : Ready s) (same : Same u s) (held : InRoom u) (at : u .read ≡ d .textLines)
+  module _ {s : State} (u : State) (ready : Ready s) (same : Same u s) (held : InRoom u) (at : u .read ≡ d .textLines)
       {a b : List ℤ} {t : Taken} {r : Outcome} where
     -- it is stored where there is room, and refused past the 257th
     by-room : (k : Bool) → deskOf u a b ≡ putStore d l (cond k behind past)
@@ -49,6 +44,14 @@ module _ (d : Desk) (l : Line) (x y : ℤ) where
         → Takes t s r a b
     pointed-takes c e q = by-room (ltb (pointsOf (storeOf d l .points)) room) e (q ∙ sym (ap (pointSaid u l) c))
 
+-- what is said changes nothing in which tables are built
+said-built : (u : State) (l : Line) (count : ℕ) {r : Outcome} → r ≡ pointSaid u l count → builtIn (r .state) ≡ builtIn u
+said-built u l count e = ap (λ (r : Outcome). builtIn (r .state)) e ∙ go (ltb count room)
+  where
+    go : (k : Bool) → builtIn (cond k (quietly u) (sayingly u (refusedAt 13 l (u .read))) .state) ≡ builtIn u
+    go true = refl
+    go false = refl
+
 -- ---------------- .. for the line that points go to
 module _ {s : State} (k : Ready s) (a b : List ℤ) (x y : ℤ) (h : Held) {r : Outcome} {after : List ℤ} where
   pub point-on-a : s .target ≡ LineA → Stored (s .a) a → Adds (s .a) a x y h after
@@ -56,10 +59,12 @@ module _ {s : State} (k : Ready s) (a b : List ℤ) (x y : ℤ) (h : Held) {r : 
   point-on-a at kept p q =
       let desk = deskOf s a b in
       let count = points-counted (s .a) a kept in (
-        pointed-takes desk LineA x y k (refl, refl, refl) (p .1 .0, k .bounds .count-b) refl count
-            (ap (putStore desk LineA) (p .0)) q (sym (ap (λ (l : Line). takePoint desk l x y) at)),
-        (λ i. both ((p .1 .1 ∙ (λ j. pointLeft (sym count j) a x y)) i) b)
+        pointed-takes desk LineA x y (withA s h) k (refl, refl, refl) (p .counted, k .bounds .count-b) refl count
+            (ap (putStore desk LineA) (p .store)) q (sym (ap (λ (l : Line). takePoint desk l x y) at)),
+        (λ i. both ((p .left ∙ (λ j. pointLeft (sym count j) a x y)) i) b)
             ∙ sym (ap (λ (l : Line). storesLeft desk l (both a b) x y) at),
+        said-built (withA s h) LineA (s .a .count) q ∙ (λ i. record { a = p .built i; b = s .b .built })
+            ∙ sym (ap (λ (l : Line). pointsChange l (builtIn s)) at),
       )
 
   pub point-on-b : s .target ≡ LineB → Stored (s .b) b → Adds (s .b) b x y h after
@@ -67,8 +72,10 @@ module _ {s : State} (k : Ready s) (a b : List ℤ) (x y : ℤ) (h : Held) {r : 
   point-on-b at kept p q =
       let desk = deskOf s a b in
       let count = points-counted (s .b) b kept in (
-        pointed-takes desk LineB x y k (refl, refl, refl) (k .bounds .count-a, p .1 .0) refl count
-            (ap (putStore desk LineB) (p .0)) q (sym (ap (λ (l : Line). takePoint desk l x y) at)),
-        (λ i. both a ((p .1 .1 ∙ (λ j. pointLeft (sym count j) b x y)) i))
+        pointed-takes desk LineB x y (withB s h) k (refl, refl, refl) (k .bounds .count-a, p .counted) refl count
+            (ap (putStore desk LineB) (p .store)) q (sym (ap (λ (l : Line). takePoint desk l x y) at)),
+        (λ i. both a ((p .left ∙ (λ j. pointLeft (sym count j) b x y)) i))
             ∙ sym (ap (λ (l : Line). storesLeft desk l (both a b) x y) at),
+        said-built (withB s h) LineB (s .b .count) q ∙ (λ i. record { a = s .a .built; b = p .built i })
+            ∙ sym (ap (λ (l : Line). pointsChange l (builtIn s)) at),
       )

@@ -13,6 +13,7 @@ use Rattle.store.specs.declared.State.{State}
 use Rattle.store.specs.declared.Outcome.{Outcome}
 use Rattle.store.specs.States.{heard, counted, quietly, sayingly}
 use Rattle.records.specs.Left.{Both, Numbers, storesLeft, recordLeft, textLeft}
+use Rattle.records.specs.Built.{builtIn, pointsChange, recordBuilt, textBuilt}
 use Rattle.records.specs.Carried.{deskOf, Bounds}
 
 -- ---- the definitions' values of an outcome
@@ -35,18 +36,21 @@ pub record Takes (t : Taken) (s : State) (r : Outcome) (a b : List ℤ) : Type 0
 abbrev pub pointSaid : State → Line → ℕ → Outcome
 pointSaid s l count = cond (ltb count room) (quietly s) (sayingly s (refusedAt 13 l (s .read)))
 
--- ---- what a point, a record and a text line come to, and what they leave in the numbers
+-- ---- what a point, a record and a text line come to, what they leave in the numbers, and which tables are built then
 abbrev pub TakesPoint : State → ℤ → ℤ → Both → Outcome → Both → Type 0
 TakesPoint s x y stores r after =
     let d = deskOf s (stores .a) (stores .b) in
     Takes (takePoint d (s .target) x y) s r (after .a) (after .b) × (after ≡ storesLeft d (s .target) stores x y)
+    × (builtIn (r .state) ≡ pointsChange (s .target) (builtIn s))
 
 abbrev pub TakesRecord : State → Record → Numbers → Outcome → Numbers → Type 0
 TakesRecord s q n r after =
     let d = deskOf s (n .stores .a) (n .stores .b) in
     Takes (takeRecord d q) s r (after .stores .a) (after .stores .b) × (after ≡ recordLeft d n q)
+    × (builtIn (r .state) ≡ recordBuilt d (n .tables) (builtIn s) q)
 
 abbrev pub TakesText : State → List ℕ → Numbers → Outcome → Numbers → Type 0
 TakesText s text n r after =
     let d = deskOf s (n .stores .a) (n .stores .b) in
     Takes (takeText d text) (counted s) r (after .stores .a) (after .stores .b) × (after ≡ textLeft d n text)
+    × (builtIn (r .state) ≡ textBuilt d (n .tables) (builtIn s) text)

@@ -2,6 +2,7 @@
 // `turn_line` says it by the definitions of `desk`, and what every lent slice holds afterwards.
 use answers::reply;
 use limits::ROOM;
+use ready::TablesBuilt;
 use ready::refused;
 use rules::Line;
 use store::Outcome;
@@ -17,7 +18,9 @@ ghost use mathlib.Core.Path.{_≡_};
 ghost use Prim.Native.Nat.{_+_, _*_, _<_, _^_};
 ghost use lib.ListN.{length};
 ghost use Rattle.desk.specs.Desk.{room};
+ghost use Rattle.desk.specs.Kept.{storeIn};
 ghost use Rattle.records.specs.Left.{both, numbers};
+ghost use Rattle.records.specs.Built.{builtIn, withBuilt, AllAsBuilt};
 ghost use Rattle.records.specs.Carried.{Lent, Bounds};
 ghost use Rattle.records.specs.Takes.{Ready, pointSaid, TakesPoint, TakesRecord, TakesText};
 
@@ -55,6 +58,20 @@ fn take_point(state: State, a: &mut [i32], b: &mut [i32], x: i32, y: i32) -> Out
     }
 }
 
+// Other tables are built.
+fn with_built(state: State, built: TablesBuilt) -> State
+    ensures { λ r. ⌜ r ≡ withBuilt state built ⌝ }
+{
+    let mut a = state.a;
+    a.built = built.a;
+    let mut b = state.b;
+    b.built = built.b;
+    let mut s = state;
+    s.a = a;
+    s.b = b;
+    s
+}
+
 // What a record comes to.
 fn take_record(
     state: State,
@@ -64,7 +81,9 @@ fn take_record(
     table_b: &mut [i32],
     record: Record,
 ) -> Outcome
-    requires { ⌜ Lent (now a) (now b) (now «table_a») (now «table_b») × Ready state ⌝ }
+    requires { ⌜ Lent (now a) (now b) (now «table_a») (now «table_b») × Ready state
+        × AllAsBuilt (builtIn state) (storeIn (state .a) (now a)) (storeIn (state .b) (now b))
+        (both (now «table_a») (now «table_b»)) ⌝ }
     ensures { λ r. ⌜ TakesRecord state «record»
         (numbers (now (a .entry)) (now (b .entry)) (now («table_a» .entry)) (now («table_b» .entry))) r
         (numbers (now (a .exit)) (now (b .exit)) (now («table_a» .exit)) (now («table_b» .exit))) ⌝ }
@@ -76,10 +95,9 @@ fn take_record(
             let held_a = state.a;
             let held_b = state.b;
             let place = state.read;
-            saying(
-                state,
-                reply(record, place, held_a, a, table_a, held_b, b, table_b),
-            )
+            let replied = reply(record, place, held_a, a, table_a, held_b, b, table_b);
+            let built = replied.built;
+            saying(with_built(state, built), replied.reply)
         }
     }
 }
@@ -93,7 +111,9 @@ pub fn take_text(
     table_b: &mut [i32],
     text: &[u8],
 ) -> Outcome
-    requires { ⌜ Lent (now a) (now b) (now «table_a») (now «table_b») × Bounds state ⌝ }
+    requires { ⌜ Lent (now a) (now b) (now «table_a») (now «table_b») × Bounds state
+        × AllAsBuilt (builtIn state) (storeIn (state .a) (now a)) (storeIn (state .b) (now b))
+        (both (now «table_a») (now «table_b»)) ⌝ }
     requires { ⌜ state .read + 1 < 2 ^ 64 ⌝ }
     ensures { λ r. ⌜ TakesText state (now (text .entry))
         (numbers (now (a .entry)) (now (b .entry)) (now («table_a» .entry)) (now («table_b» .entry))) r

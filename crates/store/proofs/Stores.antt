@@ -14,7 +14,7 @@ use Rattle.rules.specs.Sheet.{pointsOf}
 use Rattle.desk.specs.declared.Held.{Held}
 use Rattle.desk.specs.Desk.{Store, room}
 use Rattle.desk.specs.Kept.{storeIn, Stored}
-use Rattle.store.specs.States.{pointLeft, withPoint}
+use Rattle.store.specs.States.{pointLeft, Adds}
 
 -- Two numbers that are set behind the first 2k stand behind them.
 set-behind : (xs : List ℤ) (k : ℕ) (x y : ℤ) → 2 * k + 1 < length xs →
@@ -49,11 +49,6 @@ module _ (h : Held) (xs : List ℤ) (s : Stored h xs) where
       omega arith
 
   module _ (x y : ℤ) where
-    -- what is promised of a point more: how the line is held, and every number of the store
-    abbrev Adds : Held → List ℤ → Type 0
-    Adds r after =
-        (storeIn r after ≡ withPoint (storeIn h xs) x y) × ((r .count ≤ room) × (after ≡ pointLeft (h .count) xs x y))
-
     -- the store with the point, or under 13
     abbrev choice : Bool → Store
     choice k =
@@ -64,26 +59,32 @@ module _ (h : Held) (xs : List ℤ) (s : Stored h xs) where
     n = h .count
 
     -- A point goes behind those that are stored.
-    pub point-stored : n < room → Adds (record { count = n + 1; over = h .over }) (set (set xs (2 * n) x) (2 * n + 1) y)
+    pub point-stored : n < room → Adds h xs x y (record { count = n + 1; over = h .over; built = false })
+        (set (set xs (2 * n) x) (2 * n + 1) y)
     unfolding pointLeft
     point-stored l =
         let whole = s .whole in
         let counted = points-counted in
-        let chosen = ap choice (lt-ltb (pointsOf (storeIn h xs .points)) room (omega arith)) in (
-          (λ i. record { points = set-behind xs n x y (omega arith) i; over = h .over }) ∙ sym chosen,
-          (omega arith, rw (lt-ltb n room l)),
-        )
+        let chosen = ap choice (lt-ltb (pointsOf (storeIn h xs .points)) room (omega arith)) in
+        record {
+          store = (λ i. record { points = set-behind xs n x y (omega arith) i; over = h .over }) ∙ sym chosen;
+          counted = omega arith;
+          left = rw (lt-ltb n room l);
+          built = refl;
+        }
 
     -- Past the last that there is room for, nothing does.
-    pub point-past : room ≤ n → Adds (record { count = n; over = true }) xs
+    pub point-past : room ≤ n → Adds h xs x y (record { count = n; over = true; built = false }) xs
     unfolding pointLeft
     point-past l =
         let counted = points-counted in
         let chosen = ap choice (le-ltb (pointsOf (storeIn h xs .points)) room (omega arith)) in
-        (sym chosen, (s .counted, rw (le-ltb n room l)))
+        record { store = sym chosen; counted = s .counted; left = rw (le-ltb n room l); built = refl }
 
--- The same store is held the same way.
-pub held-unique : {h h′ : Held} {xs ys : List ℤ} → Stored h xs → Stored h′ ys → storeIn h xs ≡ storeIn h′ ys → h ≡ h′
-held-unique {h} {h′} {xs} {ys} p q e =
+-- The same store is held the same way, if its table is built in both or in neither.
+pub held-unique : {h h′ : Held} {xs ys : List ℤ} → Stored h xs → Stored h′ ys → storeIn h xs ≡ storeIn h′ ys
+    → h .built ≡ h′ .built → h ≡ h′
+held-unique {h} {h′} {xs} {ys} p q e built =
     let same = ap (λ (s : Store). pointsOf (s .points)) e in
-    λ i. record { count = (sym (points-counted h xs p) ∙ same ∙ points-counted h′ ys q) i; over = e i .over }
+    let count = sym (points-counted h xs p) ∙ same ∙ points-counted h′ ys q in
+    λ i. record { count = count i; over = e i .over; built = built i }

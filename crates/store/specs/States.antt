@@ -15,7 +15,7 @@ use Rattle.words.specs.Records.{longest}
 use Rattle.desk.specs.declared.Held.{Held}
 use Rattle.desk.specs.Desk.{Store, room}
 use Rattle.desk.specs.Chunks.{keep}
-use Rattle.desk.specs.Kept.{keptBytes}
+use Rattle.desk.specs.Kept.{storeIn, keptBytes}
 use Rattle.store.specs.declared.State.{State}
 use Rattle.store.specs.declared.Speech.{Speech}
 use Rattle.store.specs.declared.Speech.the-variants.{Quiet, Says}
@@ -30,6 +30,13 @@ abbrev pub withPoint : Store → ℤ → ℤ → Store
 withPoint s x y =
     cond (ltb (pointsOf (s .points)) room) (record { points = s .points ++ x ∷ y ∷ []; over = s .over })
     (record { points = s .points; over = true })
+
+-- ---- what is promised of a point more: how the line is held, and every number of the store
+pub record Adds (h : Held) (numbers : List ℤ) (x y : ℤ) (r : Held) (after : List ℤ) : Type 0 where
+  pub store : storeIn r after ≡ withPoint (storeIn h numbers) x y
+  pub counted : r .count ≤ room
+  pub left : after ≡ pointLeft (h .count) numbers x y
+  pub built : r .built ≡ false
 
 -- ---- a byte is written behind the pending bytes, and past one byte more than a text line may have none is
 unfoldable pub keptLeft : ℕ → List ℕ → ℕ → List ℕ
@@ -61,7 +68,7 @@ aimed s l =
     record { target = l; a = s .a; b = s .b; read = s .read; printed = s .printed; pending = s .pending }
 
 abbrev pub noPoints : Held
-noPoints = record { count = 0; over = false }
+noPoints = record { count = 0; over = false; built = false }
 
 abbrev pub started : State → Line → State
 started s NoLine = aimed s NoLine

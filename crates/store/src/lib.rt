@@ -11,9 +11,9 @@ ghost use Prim.Native.Nat.{_+_, _≤_, _<_, _^_};
 ghost use lib.ListN.{length};
 ghost use Rattle.print.specs.Printed.{widest};
 ghost use Rattle.print.specs.Put.{Put};
-ghost use Rattle.desk.specs.Desk.{room, saidBytes};
-ghost use Rattle.desk.specs.Kept.{keptBytes, storeIn, Stored};
-ghost use Rattle.store.specs.States.{pointLeft, withPoint, Keeps};
+ghost use Rattle.desk.specs.Desk.{saidBytes};
+ghost use Rattle.desk.specs.Kept.{keptBytes, Stored};
+ghost use Rattle.store.specs.States.{Adds, Keeps};
 ghost use Rattle.store.specs.States.{counted, aimed, started, quietly, sayingly, heard};
 
 // What is carried beside the lent slices: where points go, how the two lines are held, the text lines read, the lines
@@ -39,12 +39,10 @@ pub struct Outcome {
     pub speech: Speech,
 }
 
-// Each point past the 257th is not stored.
+// Each point past the 257th is not stored. The table of the line is not built from its points any more.
 pub fn add_point(held: Held, points: &mut [i32], x: i32, y: i32) -> Held
     requires { ⌜ Stored held (now points) ⌝ }
-    ensures { λ r. ⌜ storeIn r (now (points .exit)) ≡ withPoint (storeIn held (now (points .entry))) x y ⌝ }
-    ensures { λ r. ⌜ r .count ≤ room ⌝ }
-    ensures { λ _. ⌜ now (points .exit) ≡ pointLeft (held .count) (now (points .entry)) x y ⌝ }
+    ensures { λ r. ⌜ Adds held (now (points .entry)) x y r (now (points .exit)) ⌝ }
 {
     let count = held.count;
     if count < ROOM {
@@ -53,9 +51,14 @@ pub fn add_point(held: Held, points: &mut [i32], x: i32, y: i32) -> Held
         return Held {
             count: count + 1,
             over: held.over,
+            built: false,
         };
     }
-    Held { count, over: true }
+    Held {
+        count,
+        over: true,
+        built: false,
+    }
 }
 
 // A byte behind the pending bytes: of a text line, one byte more than it may have is kept.
@@ -107,6 +110,7 @@ pub fn started(state: State, line: Line) -> State
     let none = Held {
         count: 0,
         over: false,
+        built: false,
     };
     let mut s = state;
     match line {

@@ -5,6 +5,7 @@ use native.Mathlib.Omega.{arith}
 use lib.ListN.{length}
 use borrow.Author.Needs.{needs}
 use Rattle.records.specs.Left.{numbers, slices}
+use Rattle.byte.proofs.Stay.{feeds-stay}
 use Rattle.chunks.proofs.Chunk.{FedFirst, fed-none, fed-room, fed-number, fed-more, fed-all}
 use Rattle.chunks.proofs.feed.Statement.{statement}
 use Rattle.chunks.proofs.feed.Tie as tie
@@ -42,8 +43,9 @@ feed-byte-requires c κs =
     let more = round c .loop-test .taken in
     let head = round c .before in
     let so-far = head .loop .inv in
+    let first = start (head .before) .pre .0 in
     let pre = start (head .before) .pre .1 in (
-      (so-far .sizes .lent, so-far .feeds .bounds),
+      (so-far .sizes .lent, so-far .feeds .bounds, feeds-stay (so-far .feeds) (first .2)),
       ((so-far .sizes .text, fed-room so-far more (pre .0 .1)), fed-number so-far more (pre .1)),
     )
 

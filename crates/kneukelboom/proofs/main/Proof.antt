@@ -72,7 +72,8 @@ pub main-spec : {M : Type 1} → statement M
 main-spec =
     tie.close (tie.spec
     Inv-loop μ-loop (λ c κs. search needs)
-    (λ c. record { full = refl; held = after-none (c .opened .ensures .0 zeros) (c .opened .ensures .1) })
+    (λ c. let s = c .opened .ensures in
+    record { full = refl; held = after-none (s .0 zeros) (s .1 .0) (s .1 .1) })
     (λ c. search needs) (λ c κs. search needs) (λ c. search needs) (λ c κs. search needs)
     (λ c. within _ (c .pass .ensures)) (λ c. sym (length-take-le _ _ (within _ (c .before .pass .ensures))))
     (λ c κs. search needs) (λ c κs. search needs) (λ c. search needs) (λ c. search needs) (λ c. search needs)

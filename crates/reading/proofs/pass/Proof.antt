@@ -11,6 +11,7 @@ use mir.Facts.{toZ-ofZ}
 use borrow.Author.Needs.{needs}
 use Rattle.io.specs.Counts.{clamped}
 use Rattle.records.specs.Left.{Slices, slices}
+use Rattle.reading.proofs.After.{after-stay}
 use Rattle.reading.proofs.Answers.{answer-fails, answer-ends, answer-goes}
 use Rattle.reading.proofs.pass.Statement.{statement}
 use Rattle.reading.proofs.pass.Tie as tie
@@ -26,9 +27,9 @@ came s = toZ-ofZ {w = w64} (s .fits .got)
 abbrev start : tie.Else1 → tie.Start
 start p = p .before .before
 
-abbrev at-end : tie.After-finish → tie.Then2
+abbrev at-end : tie.After-finish-arg6 → tie.Then2
 at-end p =
-    let fifth = p .before .before in
+    let fifth = p .before in
     let second = fifth .before .before .before in second .before .before
 
 abbrev counted : tie.After-feed-arg7 → tie.After-count
@@ -42,9 +43,20 @@ returns c =
     let below : ltZ (s .args .got) (pos 0) ≡ true = simp (came s) at (c .if1 .taken) in
     answer-fails (s .args .got) below
 
+-- a line whose table is built stays ready
+finish-requires : tie.Need-finish-requires
+finish-requires c κs =
+    let held = start (at-end c .before) .pre .1 in
+    ((search needs, held .after .bounds, after-stay held), (search needs, search needs))
+
+feed-requires : tie.Need-feed-requires
+feed-requires c κs =
+    let held = start (counted c .before .before) .pre .1 in
+    ((search needs, held .after .bounds, after-stay held), (search needs, search needs))
+
 returns-2 : tie.Need-returns-2
 returns-2 c =
-    let end = at-end c in
+    let end = at-end (c .before) in
     let s = start (end .before) in
     let last = c .finish .last .1 in
     let left = slices (last .0) (last .1 .0) (last .1 .1 .0) (last .1 .1 .1 .0) (last .1 .1 .1 .1 .0) in
@@ -74,5 +86,5 @@ returns-3 c =
 pub pass-spec : {M : Type 1} → statement M
 pass-spec =
     tie.close (tie.spec
-    returns (λ c κs. search needs) returns-2 (λ c κs. search needs) (λ c. search needs) (λ c κs. search needs)
+    returns finish-requires returns-2 (λ c κs. search needs) (λ c. search needs) feed-requires
     add-t45 returns-3)

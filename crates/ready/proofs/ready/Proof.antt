@@ -1,4 +1,5 @@
--- `ready`: 13 before the build; then what the build says decides, and what it leaves in the table.
+-- `ready`: a table that is built is kept; else 13 before the build; then what the build says decides, and what it leaves
+-- in the table.
 use mathlib.Core.Path.{_≡_, refl, sym, ap, _∙_}
 use mathlib.Core.List.{List}
 use mathlib.Core.Bool.{Bool, cond}
@@ -14,7 +15,7 @@ use Rattle.rules.specs.Build.{buildRefusal, tableOf, builtTable}
 use Rattle.table_truth.specs.Accepted.{rowNumbers}
 use Rattle.desk.specs.Desk.{Store, refusedAt, onBuild, withTable}
 use Rattle.desk.specs.Kept.{storeIn}
-use Rattle.ready.proofs.Tables.{rows-fit, with-table, ready-is, table-is}
+use Rattle.ready.proofs.Tables.{rows-fit, with-table, ready-is, table-is, kept-same}
 use borrow.Author.Needs.{needs}
 use Rattle.ready.proofs.ready.Statement.{statement}
 use Rattle.ready.proofs.ready.Tie as tie
@@ -26,7 +27,7 @@ abbrev table : tie.Start → List ℤ
 table s = s .args .table .now
 
 fit : (s : tie.Start) → rowNumbers (store s .points) ≤ length (table s)
-fit s = rows-fit (s .args .held) (s .args .points .now) (table s) (s .pre .0) (s .pre .1)
+fit s = rows-fit (s .args .held) (s .args .points .now) (table s) (s .pre .stored) (s .pre .room)
 
 -- what is asked of the line, by whether it is under 13 and what the build refuses
 asked : (s : tie.Start) (go : List ℤ → Reply) {over : Bool} {o : Option Refusal}
@@ -39,7 +40,7 @@ asked s go = with-table (s .args .line) (store s) (s .args .place) go (table s) 
 -- what the build refuses, and what it leaves in the table
 module _ (c : tie.After-build) where
   abbrev start : tie.Start
-  start = c .before .before .before .before
+  start = let over = c .before .before .before in over .before .before
 
   refusal : builtRefusal (c .build .result) ≡ buildRefusal (store start .points) (table start)
   refusal =
@@ -49,22 +50,27 @@ module _ (c : tie.After-build) where
   written =
       c .build .ensures .1 ∙ ap (λ (ps : List ℤ). builtTable ps (table start)) (c .before .before .stored .ensures)
 
--- what readying says, by whether the line is under 13 and what the build refuses
+-- what readying says, by whether the table is built, whether the line is under 13, and what the build refuses
 returns : tie.Need-returns
 returns c =
-    let s = c .before .before in
-    let under = c .before .if1 .taken in
+    let s = c .before in
+    kept-same (s .args .line) (store s) (s .args .place) (s .pre .built (c .if1 .taken))
+
+returns-2 : tie.Need-returns-2
+returns-2 c =
+    let s = c .before .before .before in
+    let under = c .before .if2 .taken in
     record {
       reply = λ go. c .refused .ensures ∙ asked s go under refl;
       goes = ready-is (store s) (table s) under refl;
       left = table-is (store s) (table s) under;
     }
 
-returns-2 : tie.Need-returns-2
-returns-2 c =
+returns-3 : tie.Need-returns-3
+returns-3 c =
     let b = c .before .before .before .before .before in
-    let s = b .before .before .before .before in
-    let whole = b .before .before .before .if1 .left in
+    let s = start b in
+    let whole = b .before .before .before .if2 .left in
     let e = sym (refusal b) ∙ ap builtRefusal (c .before .before .built .given .1) in
     record {
       reply = λ go. c .refused2 .ensures ∙ asked s go whole e;
@@ -72,11 +78,11 @@ returns-2 c =
       left = written b ∙ table-is (store s) (table s) whole;
     }
 
-returns-3 : tie.Need-returns-3
-returns-3 c =
+returns-4 : tie.Need-returns-4
+returns-4 c =
     let b = c .before .before .before in
-    let s = b .before .before .before .before in
-    let whole = b .before .before .before .if1 .left in
+    let s = start b in
+    let whole = b .before .before .before .if2 .left in
     let w : b .build .result ≡ Written = cc in
     let e : buildRefusal (store s .points) (table s) ≡ none = sym (refusal b) ∙ ap builtRefusal w in
     record {
@@ -88,5 +94,5 @@ returns-3 c =
 pub ready-spec : {M : Type 1} → statement M
 ready-spec =
     tie.close (tie.spec
-    (search needs) returns (search needs) (search needs) (search needs) (search needs) (search needs) returns-2
-    (search needs) (search needs) returns-3)
+    returns (search needs) returns-2 (search needs) (search needs) (search needs) (search needs) (search needs)
+    returns-3 (search needs) (search needs) returns-4)

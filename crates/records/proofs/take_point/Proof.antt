@@ -4,7 +4,9 @@ use mir.Syntax.{w32}
 use mir.Facts.{toZ-ofZ}
 use Rattle.rules.specs.declared.Line.{Line}
 use Rattle.desk.specs.Desk.{Desk, saying, takePoint}
+use Rattle.store.specs.declared.Outcome.{Outcome}
 use Rattle.records.specs.Left.{both, storesLeft}
+use Rattle.records.specs.Built.{builtIn, pointsChange}
 use Rattle.records.specs.Carried.{deskOf}
 use Rattle.records.proofs.Desks.{saying-takes}
 use Rattle.records.proofs.Points.{point-on-a, point-on-b}
@@ -26,6 +28,8 @@ returns c =
           (ap (saying desk) (c .before .refused .ensures)
           ∙ sym (ap (λ (l : Line). takePoint desk l x y) (told .enum-told .given .1))),
       sym (ap (λ (l : Line). storesLeft desk l (both a b) x y) (told .enum-told .given .1)),
+      ap (λ (r : Outcome). builtIn (r .state)) (c .saying .ensures)
+          ∙ sym (ap (λ (l : Line). pointsChange l (builtIn (s .args .state))) (told .enum-told .given .1)),
     )
 
 returns-2 : tie.Need-returns-2

@@ -1,26 +1,24 @@
 -- `turn_record`: LINE and PT change what is stored, and any other record is answered.
 use mathlib.Core.Path.{_≡_, refl, sym, _∙_, ap, subst⁻¹}
+use Prim.Native.Nat.{_<_}
 use lib.IntN.{ℤ}
 use mir.Syntax.{w32}
 use mir.Val.{SFits}
 use mir.Facts.{toZ-ofZ}
 use Rattle.words.specs.declared.Record.{Record}
 use Rattle.words.specs.declared.Record.the-variants.{Pt}
-use Rattle.desk.specs.Desk.{Desk, saying, takeRecord}
+use Rattle.store.specs.declared.State.{State}
 use Rattle.store.specs.declared.Outcome.{Outcome}
 use Rattle.store.specs.States.{quietly}
-use Rattle.records.specs.Left.{Both, both, Numbers, numbers}
-use Rattle.records.specs.Carried.{deskOf}
+use Rattle.records.specs.Left.{Both, Numbers, numbers}
+use Rattle.records.specs.Built.{builtIn}
 use Rattle.records.specs.Takes.{TakesRecord}
-use Rattle.records.proofs.Desks.{start-takes, saying-takes, reply-said}
+use Rattle.records.proofs.Desks.{start-takes, start-built, reply-takes, lent-lines}
 use borrow.Author.Needs.{needs}
 use Rattle.records.proofs.take_record.Statement.{statement}
 use Rattle.records.proofs.take_record.Tie as tie
 
 module _ (s : tie.Start) where
-  abbrev desk : Desk
-  desk = deskOf (s .args .state) (s .args .a .now) (s .args .b .now)
-
   abbrev lent : Numbers
   lent = numbers (s .args .a .now) (s .args .b .now) (s .args .table-a .now) (s .args .table-b .now)
 
@@ -39,10 +37,11 @@ returns c =
     let known = c .before .before .before in
     let s = known .before .before in
     let told = known .«record» .given in
+    let quiet = c .quiet .ensures ∙ ap quietly (c .before .started .ensures) in
     came s (told .1) (
-      start-takes (told .0 .0) (s .args .a .now) (s .args .b .now) (s .pre .1)
-          (c .quiet .ensures ∙ ap quietly (c .before .started .ensures)),
+      start-takes (told .0 .0) (s .args .a .now) (s .args .b .now) (s .pre .1) quiet,
       refl,
+      ap (λ (r : Outcome). builtIn (r .state)) quiet ∙ start-built (s .args .state) (told .0 .0),
     )
 
 -- ---------------- PT: its numbers, read back
@@ -57,29 +56,41 @@ returns-2 c =
     let done = c .before .before in
     let known = done .before .before .before in
     let s = known .before .before .before in
+    let took = done .take-point .ensures in
     came s (known .before .record2 .given .1 ∙ sym (λ i. Pt (toZ-ofZ (point-x known) i) (toZ-ofZ (point-y known) i)))
-    (done .take-point .ensures .0, λ i. storesNow s (done .take-point .ensures .1 i))
+    (took .0, λ i. storesNow s (took .1 i), took .2)
 
 -- ---------------- any other record
-abbrev matched : tie.After-reply → tie.At-match-keys3
-matched c = c .before .before .before .before .before .before .before
+-- where the code came by: the record is none of these, the reply is lent its slices, and it is given
+abbrev lending : tie.After-reply-arg4 → tie.At-match-keys3
+lending c =
+    let second = c .before .before in
+    let held = second .before .before in held .before .before
+
+abbrev replying : tie.After-with-built → tie.After-reply
+replying c = let built = c .before in built .before .before .before
+
+reply-requires : tie.Need-reply-requires
+reply-requires c κs =
+    let s = lending c .before in
+    lent-lines (s .args .state) (s .pre .0) (s .pre .1 .bounds) (s .pre .2)
+
+saying-requires : tie.Need-saying-requires
+saying-requires c κs =
+    let s = lending (replying c .before) .before in
+    subst⁻¹ (λ (u : State). u .printed < u .read) (c .with-built .ensures) (s .pre .1 .next)
 
 returns-3 : tie.Need-returns-3
 returns-3 c =
-    let done = c .before .before .before in
-    let m = matched done in
+    let done = replying (c .before) in
+    let m = lending (done .before) in
     let s = m .before in
-    let k = s .pre .1 in
-    let said = reply-said (desk s) (lent s .stores) (s .args .«record») (m .match .keys3) in
-    let e = done .reply .ensures in (
-      saying-takes k (refl, refl, refl) (k .bounds .count-a, k .bounds .count-b)
-          {t = takeRecord (desk s) (s .args .«record»)} (s .args .a .now) (s .args .b .now) (c .saying .ensures)
-          (rw (← e .0) at (said .0)),
-      λ i. record { stores = said .1 i; tables = both (e .1 .0 i) (e .1 .1 i) },
-    )
+    reply-takes (s .args .state) (lent s) (s .args .«record») (s .pre .1) (m .match .keys3) (done .reply .ensures)
+    (c .before .with-built .ensures) (c .saying .ensures)
 
 pub take-record-spec : {M : Type 1} → statement M
 take-record-spec =
     tie.close (tie.spec
-    (search needs) (search needs) (search needs) (search needs) (search needs) (search needs) (search needs) returns
-    (search needs) (search needs) returns-2 (search needs) (search needs) (search needs) (search needs) returns-3)
+    (search needs) (search needs) (search needs) (search needs) (search needs) reply-requires (search needs)
+    saying-requires returns (search needs) (search needs) returns-2 (search needs) (search needs) (search needs)
+    (search needs) returns-3)

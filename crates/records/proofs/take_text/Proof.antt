@@ -1,6 +1,6 @@
 -- `turn_line`: the text line is counted, and then it is its record.
 use Rattle.records.specs.Left.{numbers}
-use Rattle.records.proofs.Desks.{ready, line-takes}
+use Rattle.records.proofs.Desks.{ready, as-built, line-takes}
 use borrow.Author.Needs.{needs}
 use Rattle.records.proofs.take_text.Statement.{statement}
 use Rattle.records.proofs.take_text.Tie as tie
@@ -12,7 +12,10 @@ counting c = c .before .before .before .before .before
 take-record-requires : tie.Need-take-record-requires
 take-record-requires c κs =
     let k = counting c in
-    let s = k .before .before in (s .pre .0 .0, ready (k .counted .ensures) (s .pre .0 .1))
+    let s = k .before .before in
+    let e = k .counted .ensures in
+    let built = as-built (s .args .state) (s .args .a .now) (s .args .b .now) e (s .pre .0 .2) in
+    (s .pre .0 .0, ready e (s .pre .0 .1), built)
 
 returns : tie.Need-returns
 returns c =
