@@ -52,7 +52,8 @@ no-table e = needed-are e (record { reply = λ go. refl; goes = refl; first = re
 
 pub table-a : {k : Needed} {a b : Store} {place : ℕ} {was : TablesBuilt} {tableA tableB leftA : List ℤ} {r : Readied}
     {ready : Bool} → k ≡ TableA → ReadiesLine LineA a place tableA r leftA → ready ≡ goesOn r
-    → Readies k a b place was tableA tableB (record { readied = r; built = record { a = ready; b = was .b } }) leftA tableB
+    → Readies k a b place was tableA tableB (record { readied = r; built = record { a = ready; b = was .b } })
+    leftA tableB
 table-a {b = b} {was = was} e r g =
     needed-are e
     (record {

@@ -1,5 +1,5 @@
--- What is readied allows one outcome alone: the question goes on, or one thing is told; which tables are built then, and
--- what is left in them.
+-- What is readied allows one outcome alone: the question goes on, or one thing is told; which tables are built then,
+-- and what is left in them.
 use mathlib.Core.Path.{_≡_, refl, sym, _∙_, ap}
 use mathlib.Core.Bool.{true≢false}
 use mathlib.Core.List.{List}

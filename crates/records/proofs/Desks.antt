@@ -22,8 +22,15 @@ use Rattle.ready.specs.Readied.{LentLine}
 use Rattle.answers.specs.declared.Replied.{Replied}
 use Rattle.answers.specs.Asked.{replyTo, Replies}
 use Rattle.records.specs.Left.{Both, both, Numbers, storesAfter, textLeft}
-use Rattle.records.specs.Built.{builtIn, withBuilt, pointsChange, askedBuilt, recordBuilt, textBuilt,
-    AllAsBuilt}
+use Rattle.records.specs.Built.{
+  builtIn,
+  withBuilt,
+  pointsChange,
+  askedBuilt,
+  recordBuilt,
+  textBuilt,
+  AllAsBuilt,
+}
 use Rattle.records.specs.Carried.{deskOf, Lent, Bounds}
 use Rattle.records.specs.Takes.{Ready, Takes, TakesRecord, TakesText}
 use Rattle.store.specs.States.{counted, started, quietly, sayingly}

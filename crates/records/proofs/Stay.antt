@@ -12,8 +12,22 @@ use Rattle.rules.specs.Sheet.{pointsOf}
 use Rattle.words.specs.declared.Record.{Record}
 use Rattle.words.specs.declared.Record.the-variants.{Start, Pt, Near, In, Meet, Agree, NotUnderstood}
 use Rattle.words.specs.Records.{recordOf}
-use Rattle.desk.specs.Desk.{Store, room, Desk, storeOf, putStore, countText, Taken, quiet, saying, refusedAt, addPoint,
-    takePoint, takeRecord, takeText}
+use Rattle.desk.specs.Desk.{
+  Store,
+  room,
+  Desk,
+  storeOf,
+  putStore,
+  countText,
+  Taken,
+  quiet,
+  saying,
+  refusedAt,
+  addPoint,
+  takePoint,
+  takeRecord,
+  takeText,
+}
 use Rattle.ready.specs.declared.Needed.{Needed}
 use Rattle.ready.specs.declared.Needed.the-variants.{NoTable, TableA, BothTables}
 use Rattle.ready.specs.declared.TablesBuilt.{TablesBuilt}
@@ -44,7 +58,8 @@ abbrev pub Stay : TablesBuilt → Desk → Both → Type 0
 Stay k d t = AllAsBuilt k (d .a) (d .b) t
 
 -- a point for a line, whether there is room for it or not, where this holds whatever the line's store is then
-module _ {k : TablesBuilt} {t : Both} (d : Desk) (l : Line) (x y : ℤ) (h : (s : Store) → Stay k (putStore d l s) t) where
+module _ {k : TablesBuilt} {t : Both} (d : Desk) (l : Line) (x y : ℤ)
+    (h : (s : Store) → Stay k (putStore d l s) t) where
   abbrev behind : Store
   behind = record { points = storeOf d l .points ++ x ∷ y ∷ []; over = storeOf d l .over }
 

@@ -1,5 +1,5 @@
 // What a text line comes to, on slices: a point stored, a question answered over the two stores, a refusal.
-// `turn_line` says it by the definitions of `desk`, and what every lent slice holds afterwards.
+// `take_text` says it by the definitions of `desk`, and what every lent slice holds afterwards.
 use answers::reply;
 use limits::ROOM;
 use ready::TablesBuilt;

@@ -45,20 +45,16 @@ pub fn add_point(held: Held, points: &mut [i32], x: i32, y: i32) -> Held
     ensures { λ r. ⌜ Adds held (now (points .entry)) x y r (now (points .exit)) ⌝ }
 {
     let count = held.count;
+    let mut next = held;
+    next.built = false;
     if count < ROOM {
         points[2 * count] = x;
         points[2 * count + 1] = y;
-        return Held {
-            count: count + 1,
-            over: held.over,
-            built: false,
-        };
+        next.count = count + 1;
+        return next;
     }
-    Held {
-        count,
-        over: true,
-        built: false,
-    }
+    next.over = true;
+    next
 }
 
 // A byte behind the pending bytes: of a text line, one byte more than it may have is kept.

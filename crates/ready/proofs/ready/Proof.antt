@@ -1,5 +1,5 @@
--- `ready`: a table that is built is kept; else 13 before the build; then what the build says decides, and what it leaves
--- in the table.
+-- `ready`: a table that is built is kept; else 13 before the build; then what the build says decides, and what it
+-- leaves in the table.
 use mathlib.Core.Path.{_≡_, refl, sym, ap, _∙_}
 use mathlib.Core.List.{List}
 use mathlib.Core.Bool.{Bool, cond}

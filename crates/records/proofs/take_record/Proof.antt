@@ -1,4 +1,4 @@
--- `turn_record`: LINE and PT change what is stored, and any other record is answered.
+-- `take_record`: LINE and PT change what is stored, and any other record is answered.
 use mathlib.Core.Path.{_≡_, refl, sym, _∙_, ap, subst⁻¹}
 use Prim.Native.Nat.{_<_}
 use lib.IntN.{ℤ}

@@ -1,4 +1,4 @@
--- `turn_line`: the text line is counted, and then it is its record.
+-- `take_text`: the text line is counted, and then it is its record.
 use Rattle.records.specs.Left.{numbers}
 use Rattle.records.proofs.Desks.{ready, as-built, line-takes}
 use borrow.Author.Needs.{needs}
