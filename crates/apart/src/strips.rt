@@ -1,10 +1,11 @@
 // Whether two nodes are dismissed by their boxes and strips alone.
+use line::direction;
 use line::greater;
 use line::lesser;
 use rules::Point;
 use rules::Row;
 ghost use mathlib.Core.Path.{_≡_};
-ghost use Rattle.rules.specs.Plane.{tAt};
+ghost use Rattle.rules.specs.Plane.{direction, tAt};
 ghost use Rattle.rules.specs.Questions.{boxesApart, beyondCorners, stripApart, apart};
 ghost use Rattle.limits.specs.Small.{OnSheet, Small};
 ghost use Rattle.apart.specs.Placed.{BoxOnSheet, Placed};
@@ -62,22 +63,25 @@ fn strip_apart(row: Row, s: Point, u: Point, other: Row) -> bool
     beyond(u, s, other, row.tmin, row.tmax)
 }
 
+// Whether the nodes are dismissed, from their rows and the points that they begin and end with. A heading is found where
+// it is asked for: boxes that are apart need none.
 pub fn apart(
     row_a: Row,
     start_a: Point,
-    heading_a: Point,
+    end_a: Point,
     row_b: Row,
     start_b: Point,
-    heading_b: Point,
+    end_b: Point,
 ) -> bool
-    requires { ⌜ Placed «row_a» «start_a» «heading_a» × Placed «row_b» «start_b» «heading_b» ⌝ }
-    ensures { λ r. ⌜ r ≡ apart «row_a» «start_a» «heading_a» «row_b» «start_b» «heading_b» ⌝ }
+    requires { ⌜ Placed «row_a» «start_a» «end_a» × Placed «row_b» «start_b» «end_b» ⌝ }
+    ensures { λ r. ⌜ r ≡ apart «row_a» «start_a» (direction «start_a» «end_a»)
+        «row_b» «start_b» (direction «start_b» «end_b») ⌝ }
 {
     if boxes_apart(row_a, row_b) {
         return true;
     }
-    if strip_apart(row_a, start_a, heading_a, row_b) {
+    if strip_apart(row_a, start_a, direction(start_a, end_a), row_b) {
         return true;
     }
-    strip_apart(row_b, start_b, heading_b, row_a)
+    strip_apart(row_b, start_b, direction(start_b, end_b), row_a)
 }
