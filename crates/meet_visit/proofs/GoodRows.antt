@@ -1,24 +1,28 @@
 -- What a good row that was read gives: points, a heading and a box for exact arithmetic, and an inner split.
 use mathlib.Core.Path.{_≡_, sym, _∙_, subst, subst₂}
-use mathlib.Core.Bool.{Bool}
+use mathlib.Core.Bool.{Bool, _&&_}
 use mathlib.Core.List.{List}
-use Prim.Native.Nat.{_+_, _<_}
+use Prim.Native.Nat.{ℕ, _+_, _<_}
 use lib.Dec.{T}
-use lib.IntN.{ℤ}
+use lib.IntN.{ℤ, pos, natAbs}
+use lib.Signed.{_≤ℤ_}
+use mir.Facts.{and-yes}
+use Rattle.integers.specs.Laws.{zarith}
+use Rattle.integers.specs.Order.{eqZ, eqZ-yes}
 use Rattle.rules.specs.declared.Node.{Node}
 use Rattle.rules.specs.declared.Point.{Point}
 use Rattle.rules.specs.declared.Row.{Row}
 use Rattle.rules.specs.Plane.{direction}
 use Rattle.rules.specs.Tree.{rowAt}
-use Rattle.rules.specs.Rows.{good}
+use Rattle.rules.specs.Rows.{rangeGood, splitGood, stripGood, boxGood, endsGood, leafGood, good}
 use Rattle.rules.specs.Questions.{splitIn, startOf, endOf, headingOf, apart}
 use Rattle.visits.specs.Nodes.{Inner}
 use Rattle.visits.proofs.Nodes.{GoodRow, good-read}
+use Rattle.visits.proofs.Tests.{four-yes}
 use Rattle.limits.specs.Small.{OnSheet}
 use Rattle.apart.specs.Placed.{Placed}
-use Rattle.meet_visit.specs.Pairs.{NodeStands, HasSplit, Read}
+use Rattle.meet_visit.specs.Pairs.{NodeStands, HasSplit, Read, nodeIn}
 use Rattle.limits.proofs.OnSheets.{between-abs, on-sheet}
-use Rattle.limits.proofs.Sizes.{direction-small}
 
 -- the row of a node that stands, when it is read
 pub read-of : {ps t : List ℤ} {r : Row} {n : Node} → NodeStands ps t n → r ≡ rowAt t (n .row) → Read ps r n
@@ -33,14 +37,30 @@ pub record EndsRead (ps : List ℤ) (n : Node) (start end : Point) : Type 0 wher
   pub starts : start ≡ startOf ps n
   pub ends : end ≡ endOf ps n
 
-pub heading-read : {ps : List ℤ} {n : Node} {start end u : Point} → EndsRead ps n start end → u ≡ direction start end
-    → u ≡ headingOf ps n
-heading-read e h = h ∙ (λ i. direction (e .starts i) (e .ends i))
-
-pub apart-read : {ps qs : List ℤ} (r q : Row) {m n : Node} {p e p′ e′ u v : Point} {x : Bool} → EndsRead ps m p e
-    → EndsRead qs n p′ e′ → u ≡ direction p e → v ≡ direction p′ e′ → x ≡ apart r p u q p′ v
+pub apart-read : {ps qs : List ℤ} (r q : Row) {m n : Node} {p e p′ e′ : Point} {x : Bool} → EndsRead ps m p e
+    → EndsRead qs n p′ e′ → x ≡ apart r p (direction p e) q p′ (direction p′ e′)
     → x ≡ apart r (startOf ps m) (headingOf ps m) q (startOf qs n) (headingOf qs n)
-apart-read r q a b u v h = h ∙ (λ i. apart r (a .starts i) (heading-read a u i) q (b .starts i) (heading-read b v i))
+apart-read r q a b h =
+    h
+    ∙ (λ i. apart r (a .starts i) (direction (a .starts i) (a .ends i))
+    q (b .starts i) (direction (b .starts i) (b .ends i)))
+
+-- ---------------- a good row tells its node
+pub range-read : (ps : List ℤ) (r : Row) (first last : ℕ) → T (good ps r first last)
+    → (r .first ≡ pos first) × (r .last ≡ pos last)
+unfolding good
+range-read ps r first last h =
+    let four = rangeGood r first last && splitGood r first last && stripGood r && boxGood r in
+    let ends = endsGood ps first last in
+    let e = and-yes four ends (and-yes (four && ends) (leafGood ps first last) h .0) in
+    let f = four-yes (rangeGood r first last) (splitGood r first last) (stripGood r) (boxGood r) (e .0) in
+    let g = and-yes (eqZ (r .first) (pos first)) (eqZ (r .last) (pos last)) (f .0) in
+    (eqZ-yes {a = r .first} {b = pos first} (g .0), eqZ-yes {a = r .last} {b = pos last} (g .1))
+
+pub node-told : (ps : List ℤ) (r : Row) (n : Node) → T (good ps r (n .first) (n .last)) → nodeIn (n .row) r ≡ n
+node-told ps r n h =
+    let e = range-read ps r (n .first) (n .last) h in
+    λ i. record { row = n .row; first = natAbs (e .0 i); last = natAbs (e .1 i) }
 
 module _ {ps : List ℤ} {r : Row} {n : Node} (d : Read ps r n) where
   told : GoodRow ps r (n .first) (n .last)
@@ -52,10 +72,10 @@ module _ {ps : List ℤ} {r : Row} {n : Node} (d : Read ps r n) where
   end-on : OnSheet (endOf ps n)
   end-on = on-sheet (endOf ps n) (told .end-on)
 
-  pub placed : Placed r (startOf ps n) (headingOf ps n)
+  pub placed : Placed r (startOf ps n) (endOf ps n)
   placed = record {
     start-on = start-on;
-    heading-small = direction-small start-on end-on;
+    end-on = end-on;
     box-on = record {
       xmin-in = between-abs _ (r .xmin) (told .xmin-in);
       xmax-in = between-abs _ (r .xmax) (told .xmax-in);
@@ -64,12 +84,18 @@ module _ {ps : List ℤ} {r : Row} {n : Node} (d : Read ps r n) where
     };
   }
 
-  -- so for the points and the heading that were read
+  -- so for the points that were read
   pub ends-on : {start end : Point} → EndsRead ps n start end → OnSheet start × OnSheet end
   ends-on e = (subst OnSheet (sym (e .starts)) start-on, subst OnSheet (sym (e .ends)) end-on)
 
-  pub placed-at : {start end u : Point} → EndsRead ps n start end → u ≡ direction start end → Placed r start u
-  placed-at e h = subst₂ (Placed r) (sym (e .starts)) (sym (heading-read e h)) placed
+  pub placed-at : {start end : Point} → EndsRead ps n start end → Placed r start end
+  placed-at e = subst₂ (Placed r) (sym (e .starts)) (sym (e .ends)) placed
+
+  -- its range is one of numbers of points
+  pub range-above : (pos 0 ≤ℤ r .first) × (pos 0 ≤ℤ r .last)
+  range-above =
+      let e = range-read ps r (n .first) (n .last) (d .row-good) in
+      (subst (λ (z : ℤ). pos 0 ≤ℤ z) (sym (e .0)) (omega zarith), subst (λ (z : ℤ). pos 0 ≤ℤ z) (sym (e .1)) (omega zarith))
 
   -- the split of a node that is no leaf is a number of points ..
   pub has-split : HasSplit r n

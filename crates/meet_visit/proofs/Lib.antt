@@ -1,4 +1,3 @@
--- Laws that the proofs of `meet_visit` share, and those above it; what a visit does it does by one outcome.
+-- Laws that the proofs of `meet_visit` share, and those above it.
 pub mod GoodRows
 pub mod Steps
-pub mod Unique

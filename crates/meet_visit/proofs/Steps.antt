@@ -1,9 +1,10 @@
 -- What the code does with two good rows is what the definition does: the node that splits does so at an inner point, so
 -- its children's rows have room, and refusal 11 never comes. A bad row decides a visit without it.
-use mathlib.Core.Path.{_≡_, refl, sym}
+use mathlib.Core.Path.{_≡_, refl, sym, subst}
 use mathlib.Core.Bool.{Bool, true, false, not, cond, _&&_}
 use mathlib.Core.List.{List}
-use Prim.Native.Nat.{_+_, _<_}
+use Prim.Native.Nat.{ℕ, _+_, _<_}
+use native.Mathlib.Omega.{arith}
 use lib.Dec.{T, leb, leb→le, nleb→lt}
 use lib.IntN.{ℤ}
 use Rattle.integers.specs.Order.{yes-T}
@@ -21,9 +22,9 @@ use Rattle.visits.proofs.Nodes.{larger-opens, other-opens}
 use Rattle.row.proofs.Places.{opens}
 use Rattle.meet_visit.specs.declared.Step.{Step}
 use Rattle.meet_visit.specs.Sides.{sideA, sideB, halvesOn}
-use Rattle.meet_visit.specs.Pairs.{goodAt, Read}
-use Rattle.meet_visit.specs.Steps.{stepVisit, SplitsInside, nodesApart, compared}
-use Rattle.meet_visit.proofs.GoodRows.{split-inside}
+use Rattle.meet_visit.specs.Pairs.{goodAt, NodeStands, Read}
+use Rattle.meet_visit.specs.Steps.{stepVisit, SplitsInside, opened, FINISHES, PASSES, HALVES, nodesApart, compared}
+use Rattle.meet_visit.proofs.GoodRows.{read-of, split-inside}
 
 -- the definition of a visit, in its parts: the segments of two leaves share a point; the pair is not dismissed; and all
 -- of it, after both rows are read and good
@@ -40,13 +41,41 @@ abbrev pub comparedVisit : List ℤ → Row → List ℤ → Row → Pair → Vi
 comparedVisit ps r qs q n = cond (nodesApart ps r qs q n) (pass (λ k. k)) (keptVisit ps r qs q n)
 
 -- a step is such a visit, and splits inside
-abbrev pub Does : Pair → Step → Visit Nothing Pair → Type 0
-Does n s v = (stepVisit n s ≡ v) × SplitsInside n s
+abbrev pub Halves : Pair → Step → Visit Nothing Pair → Type 0
+Halves n o v = (stepVisit n o ≡ v) × SplitsInside n o
 
-by-test : (n : Pair) (b : Bool) (s s′ : Step) (v v′ : Visit Nothing Pair)
-    → (T b → Does n s v) → (T (not b) → Does n s′ v′) → Does n (cond b s s′) (cond b v v′)
-by-test n true s s′ v v′ h k = h tt
-by-test n false s s′ v v′ h k = k tt
+by-side : (n : Pair) (b : Bool) (s s′ : Step) (v v′ : Visit Nothing Pair)
+    → (T b → Halves n s v) → (T (not b) → Halves n s′ v′) → Halves n (cond b s s′) (cond b v v′)
+by-side n true s s′ v v′ h k = h tt
+by-side n false s s′ v v′ h k = k tt
+
+-- what a number says of such a visit; a pair is halved by this step, and is not two leaves
+pub record Does (n : Pair) (o : Step) (d : ℕ) (v : Visit Nothing Pair) : Type 0 where
+  pub finishes : d ≡ FINISHES → finish ≡ v
+  pub passes : d ≡ PASSES → pass (λ k. k) ≡ v
+  pub halves : d ≡ HALVES → Halves n o v
+  pub no-leaves : d ≡ HALVES → T (not (leaf (n .a) && leaf (n .b)))
+
+by-test : {n : Pair} {o : Step} (b : Bool) {d d′ : ℕ} {v v′ : Visit Nothing Pair}
+    → (T b → Does n o d v) → (T (not b) → Does n o d′ v′) → Does n o (cond b d d′) (cond b v v′)
+by-test true h k = h tt
+by-test false h k = k tt
+
+does-finish : {n : Pair} {o : Step} → Does n o FINISHES finish
+does-finish = record {
+  finishes = λ _. refl;
+  passes = λ e. absurd (omega arith);
+  halves = λ e. absurd (omega arith);
+  no-leaves = λ e. absurd (omega arith);
+}
+
+does-pass : {n : Pair} {o : Step} → Does n o PASSES (pass (λ k. k))
+does-pass = record {
+  finishes = λ e. absurd (omega arith);
+  passes = λ _. refl;
+  halves = λ e. absurd (omega arith);
+  no-leaves = λ e. absurd (omega arith);
+}
 
 -- a node that is no leaf splits at an inner point, and its halves have room in the table
 opens-inside : {ps : List ℤ} {r : Row} {m : Node} → Read ps r m → m .first + 1 < m .last
@@ -56,14 +85,23 @@ opens-inside : {ps : List ℤ} {r : Row} {m : Node} → Read ps r m → m .first
 opens-inside d h l go = let i = split-inside d h in (sym (opens (d .stands) i l go), i)
 
 module _ {ps qs : List ℤ} {r q : Row} (n : Pair) (a : Read ps r (n .a)) (b : Read qs q (n .b)) where
-  pub compared-does : Does n (compared ps r qs q n) (comparedVisit ps r qs q n)
+  does-halve : {v : Visit Nothing Pair} → T (not (leaf (n .a) && leaf (n .b))) → Halves n (opened r q n) v
+      → Does n (opened r q n) HALVES v
+  does-halve u h = record {
+    finishes = λ e. absurd (omega arith);
+    passes = λ e. absurd (omega arith);
+    halves = λ _. h;
+    no-leaves = λ _. u;
+  }
+
+  pub compared-does : Does n (opened r q n) (compared ps r qs q n) (comparedVisit ps r qs q n)
   compared-does =
-      by-test n (nodesApart ps r qs q n) _ _ _ _ (λ _. (refl, tt))
-      (λ _. by-test n (leaf (n .a) && leaf (n .b)) _ _ _ _
-      (λ _. by-test n (sharing ps qs n) _ _ _ _ (λ _. (refl, tt)) (λ _. (refl, tt)))
-      (λ u. by-test n (leb (size (n .b)) (size (n .a))) _ _ _ _
+      by-test (nodesApart ps r qs q n) (λ _. does-pass)
+      (λ _. by-test (leaf (n .a) && leaf (n .b))
+      (λ _. by-test (sharing ps qs n) (λ _. does-finish) (λ _. does-pass))
+      (λ u. does-halve u (by-side n (leb (size (n .b)) (size (n .a))) _ _ _ _
       (λ k. opens-inside a (larger-opens (n .a) (n .b) u (leb→le _ _ k)) LineA (halvesOn sideA n))
-      (λ k. opens-inside b (other-opens (n .a) (n .b) u (nleb→lt _ _ k)) LineB (halvesOn sideB n))))
+      (λ k. opens-inside b (other-opens (n .a) (n .b) u (nleb→lt _ _ k)) LineB (halvesOn sideB n)))))
 
 -- ---------------- what a visit comes to, by which row is bad
 module _ (ps t qs t′ : List ℤ) (n : Pair) where
@@ -86,3 +124,13 @@ module _ (ps t qs t′ : List ℤ) (n : Pair) where
   both-good h k =
       let g = yes-T (goodAt ps t (n .a)) h in
       let e = yes-T (goodAt qs t′ (n .b)) k in sym (λ i. byRows (g i) (e i))
+
+  -- what a visit of good rows does
+  pub visit-does : NodeStands ps t (n .a) → NodeStands qs t′ (n .b)
+      → let r = rowAt t (n .a .row) in
+      let q = rowAt t′ (n .b .row) in Does n (opened r q n) (compared ps r qs q n) (meetVisit ps t qs t′ n)
+  visit-does h k =
+      let r = rowAt t (n .a .row) in
+      let q = rowAt t′ (n .b .row) in
+      subst (Does n (opened r q n) (compared ps r qs q n)) (both-good (h .row-good) (k .row-good))
+      (compared-does n (read-of h refl) (read-of k refl))

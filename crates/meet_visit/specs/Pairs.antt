@@ -1,9 +1,9 @@
 -- What the functions of `meet_visit` may count on: nodes that lie inside their lines and tables, with good rows.
 use mathlib.Core.Bool.{Bool}
 use mathlib.Core.List.{List}
-use Prim.Native.Nat.{_+_, _<_}
+use Prim.Native.Nat.{ℕ, _+_, _*_, _/_, _%_, _^_, _<_}
 use lib.Dec.{T}
-use lib.IntN.{ℤ, pos}
+use lib.IntN.{ℤ, pos, natAbs}
 use lib.Signed.{_≤ℤ_}
 use Rattle.rules.specs.declared.Node.{Node}
 use Rattle.rules.specs.declared.Pair.{Pair}
@@ -27,6 +27,32 @@ pub record PairStands (ps t qs t′ : List ℤ) (n : Pair) : Type 0 where
   pub of-a : NodeStands ps t (n .a)
   pub of-b : NodeStands qs t′ (n .b)
 
+-- ---------------- a pair as the rows of its nodes
+-- the node that a row tells of, at its number
+abbrev pub nodeIn : ℕ → Row → Node
+nodeIn row r = record { row = row; first = natAbs (r .first); last = natAbs (r .last) }
+
+-- two rows in one number: A's above, B's in the 32 bits below
+abbrev pub half : ℕ
+half = 2 ^ 32
+
+abbrev pub rowsIn : ℕ → ℕ → ℕ
+rowsIn a b = a * half + b
+
+abbrev pub rowA : ℕ → ℕ
+rowA rows = rows / half
+
+abbrev pub rowB : ℕ → ℕ
+rowB rows = rows % half
+
+-- the pair that they tell of
+abbrev pub pairIn : List ℤ → List ℤ → ℕ → Pair
+pairIn t t′ rows = record {
+  a = nodeIn (rowA rows) (rowAt t (rowA rows));
+  b = nodeIn (rowB rows) (rowAt t′ (rowB rows));
+}
+
+-- ---------------- what is read of a node
 -- a node stands, with some table, and its row was read and is good
 pub record Read (ps : List ℤ) (r : Row) (n : Node) : Type 0 where
   pub table : List ℤ

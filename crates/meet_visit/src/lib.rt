@@ -1,8 +1,7 @@
-// One visit of MEET: it reads a row of each line and dismisses the pair, tests two segments, or halves one node.
-// `visit` takes a pair whose rows are good, and does what the visit of `rules` does; it halves at an inner point.
+// One visit of MEET: it reads a row of each line and dismisses the pair, tests two segments, or says that a node is
+// halved. `visit` takes the rows of a pair, which are good, and does what the visit of `rules` does.
 use apart::segments::share;
 use apart::strips::apart;
-use line::direction;
 use line::point_at;
 use row::row_at;
 use row::split_of;
@@ -14,22 +13,67 @@ ghost use mathlib.Core.Path.{_≡_};
 ghost use mathlib.Core.Bool.{not, _&&_};
 ghost use Prim.Native.Nat.{_<_};
 ghost use lib.Dec.{T};
+ghost use lib.IntN.{pos};
+ghost use lib.Signed.{_≤ℤ_};
 ghost use Rattle.rules.specs.Sheet.{most};
-ghost use Rattle.rules.specs.Questions.{leaf, meetVisit};
+ghost use Rattle.rules.specs.Tree.{mostRows, rowAt};
+ghost use Rattle.rules.specs.Questions.{leaf};
 ghost use Rattle.limits.specs.Small.{OnSheet};
-ghost use Rattle.meet_visit.specs.Pairs.{HasSplit, Read, PairStands};
-ghost use Rattle.meet_visit.specs.Steps.{stepVisit, SplitsInside, tested, opened, compared};
+ghost use Rattle.meet_visit.specs.Pairs.{HasSplit, Read, PairStands, nodeIn, rowsIn, rowA, rowB, pairIn};
+ghost use Rattle.meet_visit.specs.Steps.{tested, opened, compared};
 
-// What one visit does: a yes; nothing shared; or a node is halved, at a point.
+// What one visit does, as a number that it hands back in a register: a yes,
+pub const FINISHES: u32 = 0;
+
+// nothing shared,
+pub const PASSES: u32 = 1;
+
+// or the node with more segments is halved.
+const HALVES: u32 = 2;
+
+// The node that is halved, and its split.
 pub enum Step {
-    Finish,
-    Pass,
     HalveA(usize),
     HalveB(usize),
 }
 
+// A's row stands above B's, which has the 32 bits below.
+const HALF: u64 = 1 << 32;
+
+// The rows of a pair are one number, which is handed on in a register: what a pair is stands in its rows.
+pub fn pack_rows(a: usize, b: usize) -> u64
+    requires { ⌜ (a < mostRows) × (b < mostRows) ⌝ }
+    ensures { λ r. ⌜ r ≡ rowsIn a b ⌝ }
+{
+    a as u64 * HALF + b as u64
+}
+
+pub fn row_of_a(rows: u64) -> usize
+    ensures { λ r. ⌜ r ≡ rowA rows ⌝ }
+{
+    (rows / HALF) as usize
+}
+
+pub fn row_of_b(rows: u64) -> usize
+    ensures { λ r. ⌜ r ≡ rowB rows ⌝ }
+{
+    (rows % HALF) as usize
+}
+
+// The node that a good row tells of.
+pub fn node_of(row: usize, r: Row) -> Node
+    requires { ⌜ (pos 0 ≤ℤ r .first) × (pos 0 ≤ℤ r .last) ⌝ }
+    ensures { λ n. ⌜ n ≡ nodeIn row r ⌝ }
+{
+    Node {
+        row,
+        first: r.first as usize,
+        last: r.last as usize,
+    }
+}
+
 // The node with more segments splits, A on a tie.
-fn open_larger(row_a: Row, row_b: Row, pair: Pair) -> Step
+pub fn open_larger(row_a: Row, row_b: Row, pair: Pair) -> Step
     requires { ⌜ HasSplit «row_a» (pair .a) × HasSplit «row_b» (pair .b) ⌝ }
     requires { ⌜ T (not (leaf (pair .a) && leaf (pair .b))) ⌝ }
     ensures { λ s. ⌜ s ≡ opened «row_a» «row_b» pair ⌝ }
@@ -50,18 +94,18 @@ fn both_leaves(a: Node, b: Node) -> bool
 }
 
 // Two leaves get the exact test.
-fn test(a: Point, b: Point, c: Point, d: Point) -> Step
+fn test(a: Point, b: Point, c: Point, d: Point) -> u32
     requires { ⌜ OnSheet a × OnSheet b × OnSheet c × OnSheet d ⌝ }
     ensures { λ s. ⌜ s ≡ tested a b c d ⌝ }
 {
     if share(a, b, c, d) {
-        return Step::Finish;
+        return FINISHES;
     }
-    Step::Pass
+    PASSES
 }
 
 // What is done with two good rows.
-fn compare(points_a: &[i32], row_a: Row, points_b: &[i32], row_b: Row, pair: Pair) -> Step
+fn compare(points_a: &[i32], row_a: Row, points_b: &[i32], row_b: Row, pair: Pair) -> u32
     requires { ⌜ Read (now «points_a») «row_a» (pair .a) × Read (now «points_b») «row_b» (pair .b) ⌝ }
     ensures { λ s. ⌜ s ≡ compared (now («points_a» .entry)) «row_a» (now («points_b» .entry)) «row_b» pair ⌝ }
 {
@@ -71,39 +115,36 @@ fn compare(points_a: &[i32], row_a: Row, points_b: &[i32], row_b: Row, pair: Pai
     let end_a = point_at(points_a, a.last);
     let start_b = point_at(points_b, b.first);
     let end_b = point_at(points_b, b.last);
-    if apart(
-        row_a,
-        start_a,
-        direction(start_a, end_a),
-        row_b,
-        start_b,
-        direction(start_b, end_b),
-    ) {
-        return Step::Pass;
+    if apart(row_a, start_a, end_a, row_b, start_b, end_b) {
+        return PASSES;
     }
     if both_leaves(a, b) {
         return test(start_a, end_a, start_b, end_b);
     }
-    open_larger(row_a, row_b, pair)
+    HALVES
 }
 
-// One visit of a pair whose rows are known to be good.
+// One visit of a pair whose rows are known to be good. What it works with is gone when a half is walked from: it takes
+// no room on the stack of the walk.
 pub fn visit(
-    points_a: &[i32],
-    table_a: &[i32],
-    points_b: &[i32],
-    table_b: &[i32],
-    pair: Pair,
-) -> Step
-    requires { ⌜ PairStands (now «points_a») (now «table_a») (now «points_b») (now «table_b») pair ⌝ }
-    ensures { λ s. ⌜ stepVisit pair s
-        ≡ meetVisit (now («points_a» .entry)) (now («table_a» .entry))
-        (now («points_b» .entry)) (now («table_b» .entry)) pair ⌝ }
-    ensures { λ s. ⌜ SplitsInside pair s ⌝ }
+    points_a: &&[i32],
+    table_a: &&[i32],
+    points_b: &&[i32],
+    table_b: &&[i32],
+    rows: u64,
+) -> u32
+    requires { ⌜ PairStands (now (now «points_a»)) (now (now «table_a»)) (now (now «points_b»)) (now (now «table_b»))
+        (pairIn (now (now «table_a»)) (now (now «table_b»)) rows) ⌝ }
+    ensures { λ s. ⌜ s
+        ≡ compared (now (now («points_a» .entry))) (rowAt (now (now («table_a» .entry))) (rowA rows))
+        (now (now («points_b» .entry))) (rowAt (now (now («table_b» .entry))) (rowB rows))
+        (pairIn (now (now («table_a» .entry))) (now (now («table_b» .entry))) rows) ⌝ }
 {
-    let a = pair.a;
-    let b = pair.b;
-    let row_a = row_at(table_a, a.row);
-    let row_b = row_at(table_b, b.row);
-    compare(points_a, row_a, points_b, row_b, pair)
+    let at_a = row_of_a(rows);
+    let at_b = row_of_b(rows);
+    let row_a = row_at(*table_a, at_a);
+    let row_b = row_at(*table_b, at_b);
+    let a = node_of(at_a, row_a);
+    let b = node_of(at_b, row_b);
+    compare(*points_a, row_a, *points_b, row_b, Pair { a, b })
 }

@@ -1,19 +1,17 @@
--- `compare` dismisses the pair, tests two leaves, or opens a node. The points that it reads are the nodes' ends, and a
--- good row puts them, the headings and the boxes where arithmetic is exact.
+-- `compare` dismisses the pair, tests two leaves, or says that a node is halved. The points that it reads are the nodes'
+-- ends, and a good row puts them and the boxes where arithmetic is exact.
 use mathlib.Core.Path.{_≡_, sym, _∙_}
 use mathlib.Core.Bool.{Bool, false, cond, _&&_}
+use Prim.Native.Nat.{ℕ}
 use native.Mathlib.Omega.{arith}
-use Rattle.integers.specs.Order.{T-false}
 use Rattle.rules.specs.Questions.{leaf, startOf, endOf}
-use Rattle.meet_visit.specs.declared.Step.{Step}
-use Rattle.meet_visit.specs.declared.Step.the-variants.{Pass}
-use Rattle.meet_visit.specs.Steps.{tested, opened, nodesApart}
-use Rattle.meet_visit.proofs.GoodRows.{EndsRead, apart-read, ends-on, placed-at, has-split}
+use Rattle.meet_visit.specs.Steps.{PASSES, HALVES, tested, nodesApart}
+use Rattle.meet_visit.proofs.GoodRows.{EndsRead, apart-read, ends-on, placed-at}
 use borrow.Author.Needs.{needs}
 use Rattle.meet_visit.proofs.compare.Statement.{statement}
 use Rattle.meet_visit.proofs.compare.Tie as tie
 
--- ---------------- the step, by the two tests
+-- ---------------- what is done, by the two tests
 module _ (s : tie.Start) where
   abbrev far : Bool
   far = nodesApart (s .args .points-a .now) (s .args .row-a) (s .args .points-b .now) (s .args .row-b) (s .args .pair)
@@ -21,14 +19,13 @@ module _ (s : tie.Start) where
   abbrev leaves : Bool
   leaves = leaf (s .args .pair .a) && leaf (s .args .pair .b)
 
-  abbrev byTests : Bool → Bool → Step
+  abbrev byTests : Bool → Bool → ℕ
   byTests x y =
       let ps = s .args .points-a .now in
       let qs = s .args .points-b .now in
       let n = s .args .pair in
-      cond x Pass
-      (cond y (tested (startOf ps (n .a)) (endOf ps (n .a)) (startOf qs (n .b)) (endOf qs (n .b)))
-      (opened (s .args .row-a) (s .args .row-b) n))
+      cond x PASSES
+      (cond y (tested (startOf ps (n .a)) (endOf ps (n .a)) (startOf qs (n .b)) (endOf qs (n .b))) HALVES)
 
 -- ---------------- the points are read
 module _ (c : tie.After-point-at4) where
@@ -47,7 +44,7 @@ module _ (c : tie.After-point-at4) where
   ends-b = record { starts = c .before .point-at3 .ensures; ends = c .point-at4 .ensures }
 
 abbrev pointsRead : tie.After-apart → tie.After-point-at4
-pointsRead c = c .before .before .before
+pointsRead c = c .before
 
 abbrev origin : tie.After-apart → tie.Start
 origin c = start (pointsRead c)
@@ -55,15 +52,10 @@ origin c = start (pointsRead c)
 told-far : (c : tie.After-apart) → c .apart .result ≡ far (origin c)
 told-far c =
     let k = pointsRead c in
-    apart-read (origin c .args .row-a) (origin c .args .row-b) (ends-a k) (ends-b k)
-    (c .before .before .direction .ensures) (c .before .direction2 .ensures) (c .apart .ensures)
+    apart-read (origin c .args .row-a) (origin c .args .row-b) (ends-a k) (ends-b k) (c .apart .ensures)
 
 apart-requires : tie.Need-apart-requires
-apart-requires c κs =
-    let p = c .before .before in (
-      placed-at (start p .pre .0) (ends-a p) (c .before .direction .ensures),
-      placed-at (start p .pre .1) (ends-b p) (c .direction2 .ensures),
-    )
+apart-requires c κs = (placed-at (start c .pre .0) (ends-a c), placed-at (start c .pre .1) (ends-b c))
 
 -- ---------------- the tests
 returns : tie.Need-returns
@@ -93,11 +85,6 @@ test-requires c κs =
     let a = ends-on (start p .pre .0) (ends-a p) in
     let b = ends-on (start p .pre .1) (ends-b p) in (a .0, a .1, b .0, b .1)
 
-open-larger-requires : tie.Need-open-larger-requires
-open-larger-requires c κs =
-    let d = origin (kept (c .before)) .pre in
-    ((has-split (d .0), has-split (d .1)), T-false (sym (c .before .both-leaves .ensures) ∙ c .if2 .left))
-
 returns-2 : tie.Need-returns-2
 returns-2 c =
     let l = c .before .before in
@@ -111,6 +98,5 @@ pub compare-spec : {M : Type 1} → statement M
 compare-spec =
     tie.close
     (tie.spec (λ c κs. search needs) (λ c κs. search needs) (λ c κs. search needs) (λ c κs. search needs)
-    (λ c κs. ends-on (start c .pre .0) (ends-a c)) (λ c κs. ends-on (start (c .before) .pre .1) (ends-b (c .before)))
-    apart-requires returns both-leaves-requires test-requires returns-2 open-larger-requires
-    (λ c. c .open-larger .ensures ∙ kept-by (c .before .before) (c .before .if2 .left)))
+    apart-requires returns both-leaves-requires test-requires returns-2
+    (λ c. kept-by (c .before) (c .if2 .left)))
