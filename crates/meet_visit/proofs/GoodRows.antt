@@ -1,5 +1,5 @@
 -- What a good row that was read gives: points, a heading and a box for exact arithmetic, and an inner split.
-use mathlib.Core.Path.{_≡_, sym, _∙_, subst, subst₂}
+use mathlib.Core.Path.{_≡_, sym, _∙_, ap, subst, subst₂}
 use mathlib.Core.Bool.{Bool, _&&_}
 use mathlib.Core.List.{List}
 use Prim.Native.Nat.{ℕ, _+_, _<_}
@@ -7,9 +7,11 @@ use lib.Dec.{T}
 use lib.IntN.{ℤ, pos, natAbs}
 use lib.Signed.{_≤ℤ_}
 use mir.Facts.{and-yes}
+use native.Mathlib.Omega.{arith}
 use Rattle.integers.specs.Laws.{zarith}
 use Rattle.integers.specs.Order.{eqZ, eqZ-yes}
 use Rattle.rules.specs.declared.Node.{Node}
+use Rattle.rules.specs.declared.Pair.{Pair}
 use Rattle.rules.specs.declared.Point.{Point}
 use Rattle.rules.specs.declared.Row.{Row}
 use Rattle.rules.specs.Plane.{direction}
@@ -17,11 +19,13 @@ use Rattle.rules.specs.Tree.{rowAt}
 use Rattle.rules.specs.Rows.{rangeGood, splitGood, stripGood, boxGood, endsGood, leafGood, good}
 use Rattle.rules.specs.Questions.{splitIn, startOf, endOf, headingOf, apart}
 use Rattle.visits.specs.Nodes.{Inner}
-use Rattle.visits.proofs.Nodes.{GoodRow, good-read}
+use Rattle.visits.proofs.Nodes.{GoodRow, good-read, fits-row}
 use Rattle.visits.proofs.Tests.{four-yes}
+use Rattle.row.proofs.Places.{row-small}
 use Rattle.limits.specs.Small.{OnSheet}
 use Rattle.apart.specs.Placed.{Placed}
-use Rattle.meet_visit.specs.Pairs.{NodeStands, HasSplit, Read, nodeIn}
+use Rattle.meet_visit.specs.Pairs.{NodeStands, PairStands, HasSplit, Read}
+use Rattle.meet_visit.specs.Pairs.{rowsIn, rowA, rowB, TellsNode, nodeIn, pairIn}
 use Rattle.limits.proofs.OnSheets.{between-abs, on-sheet}
 
 -- the row of a node that stands, when it is read
@@ -57,10 +61,30 @@ range-read ps r first last h =
     let g = and-yes (eqZ (r .first) (pos first)) (eqZ (r .last) (pos last)) (f .0) in
     (eqZ-yes {a = r .first} {b = pos first} (g .0), eqZ-yes {a = r .last} {b = pos last} (g .1))
 
-pub node-told : (ps : List ℤ) (r : Row) (n : Node) → T (good ps r (n .first) (n .last)) → nodeIn (n .row) r ≡ n
-node-told ps r n h =
-    let e = range-read ps r (n .first) (n .last) h in
-    λ i. record { row = n .row; first = natAbs (e .0 i); last = natAbs (e .1 i) }
+module _ {ps t : List ℤ} {n : Node} (h : NodeStands ps t n) where
+  range : (rowAt t (n .row) .first ≡ pos (n .first)) × (rowAt t (n .row) .last ≡ pos (n .last))
+  range = range-read ps (rowAt t (n .row)) (n .first) (n .last) (h .row-good)
+
+  pub node-told : nodeIn t (n .row) ≡ n
+  node-told = λ i. record { row = n .row; first = natAbs (range .0 i); last = natAbs (range .1 i) }
+
+  pub tells-node : TellsNode t (n .row)
+  tells-node = record {
+    in-table = let f = fits-row (h .stands .fits) in let g = h .stands .fine in omega (arith, f, g);
+    first-above = subst (λ (z : ℤ). pos 0 ≤ℤ z) (sym (range .0)) (omega zarith);
+    last-above = subst (λ (z : ℤ). pos 0 ≤ℤ z) (sym (range .1)) (omega zarith);
+  }
+
+-- a number with the rows of a pair tells the pair
+pub pair-told : {ps t qs t′ : List ℤ} {n : Pair} {rows : ℕ} → PairStands ps t qs t′ n
+    → rows ≡ rowsIn (n .a .row) (n .b .row) → pairIn t t′ rows ≡ n
+pair-told {t} {t′} {n} {rows} h is =
+    let small = row-small (h .of-b .stands) in
+    let a : rowA rows ≡ n .a .row = omega (arith, is, small) in
+    let b : rowB rows ≡ n .b .row = omega (arith, is, small) in
+    let of-a = ap (nodeIn t) a ∙ node-told (h .of-a) in
+    let of-b = ap (nodeIn t′) b ∙ node-told (h .of-b) in
+    λ i. record { a = of-a i; b = of-b i }
 
 module _ {ps : List ℤ} {r : Row} {n : Node} (d : Read ps r n) where
   told : GoodRow ps r (n .first) (n .last)
@@ -90,12 +114,6 @@ module _ {ps : List ℤ} {r : Row} {n : Node} (d : Read ps r n) where
 
   pub placed-at : {start end : Point} → EndsRead ps n start end → Placed r start end
   placed-at e = subst₂ (Placed r) (sym (e .starts)) (sym (e .ends)) placed
-
-  -- its range is one of numbers of points
-  pub range-above : (pos 0 ≤ℤ r .first) × (pos 0 ≤ℤ r .last)
-  range-above =
-      let e = range-read ps r (n .first) (n .last) (d .row-good) in
-      (subst (λ (z : ℤ). pos 0 ≤ℤ z) (sym (e .0)) (omega zarith), subst (λ (z : ℤ). pos 0 ≤ℤ z) (sym (e .1)) (omega zarith))
 
   -- the split of a node that is no leaf is a number of points ..
   pub has-split : HasSplit r n

@@ -1,9 +1,9 @@
 -- What the code does with two good rows is what the definition does: the node that splits does so at an inner point, so
 -- its children's rows have room, and refusal 11 never comes. A bad row decides a visit without it.
-use mathlib.Core.Path.{_≡_, refl, sym, subst}
+use mathlib.Core.Path.{_≡_, refl, sym, subst₂}
 use mathlib.Core.Bool.{Bool, true, false, not, cond, _&&_}
 use mathlib.Core.List.{List}
-use Prim.Native.Nat.{ℕ, _+_, _<_}
+use Prim.Native.Nat.{ℕ, _+_, _<_, _≤_}
 use native.Mathlib.Omega.{arith}
 use lib.Dec.{T, leb, leb→le, nleb→lt}
 use lib.IntN.{ℤ}
@@ -125,12 +125,22 @@ module _ (ps t qs t′ : List ℤ) (n : Pair) where
       let g = yes-T (goodAt ps t (n .a)) h in
       let e = yes-T (goodAt qs t′ (n .b)) k in sym (λ i. byRows (g i) (e i))
 
-  -- what a visit of good rows does
-  pub visit-does : NodeStands ps t (n .a) → NodeStands qs t′ (n .b)
+  -- what a number says that a visit of good rows hands back
+  pub visit-does : {d : ℕ} → NodeStands ps t (n .a) → NodeStands qs t′ (n .b)
       → let r = rowAt t (n .a .row) in
-      let q = rowAt t′ (n .b .row) in Does n (opened r q n) (compared ps r qs q n) (meetVisit ps t qs t′ n)
-  visit-does h k =
+      let q = rowAt t′ (n .b .row) in d ≡ compared ps r qs q n → Does n (opened r q n) d (meetVisit ps t qs t′ n)
+  visit-does h k e =
       let r = rowAt t (n .a .row) in
       let q = rowAt t′ (n .b .row) in
-      subst (Does n (opened r q n) (compared ps r qs q n)) (both-good (h .row-good) (k .row-good))
-      (compared-does n (read-of h refl) (read-of k refl))
+      let does = compared-does n (read-of h refl) (read-of k refl) in
+      subst₂ (Does n (opened r q n)) (sym e) (both-good (h .row-good) (k .row-good)) does
+
+-- a visit that neither finishes nor passes halves a node
+pub else-halves : (ps : List ℤ) (r : Row) (qs : List ℤ) (q : Row) (n : Pair) → compared ps r qs q n ≤ HALVES
+else-halves ps r qs q n = by (nodesApart ps r qs q n) (leaf (n .a) && leaf (n .b)) (sharing ps qs n)
+  where
+    by : (x y z : Bool) → cond x PASSES (cond y (cond z FINISHES PASSES) HALVES) ≤ HALVES
+    by true y z = omega arith
+    by false true true = omega arith
+    by false true false = omega arith
+    by false false z = omega arith

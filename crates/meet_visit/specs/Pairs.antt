@@ -1,14 +1,15 @@
 -- What the functions of `meet_visit` may count on: nodes that lie inside their lines and tables, with good rows.
 use mathlib.Core.Bool.{Bool}
 use mathlib.Core.List.{List}
-use Prim.Native.Nat.{ℕ, _+_, _*_, _/_, _%_, _^_, _<_}
+use Prim.Native.Nat.{ℕ, _+_, _*_, _/_, _%_, _^_, _<_, _≤_}
 use lib.Dec.{T}
 use lib.IntN.{ℤ, pos, natAbs}
+use lib.ListN.{length}
 use lib.Signed.{_≤ℤ_}
 use Rattle.rules.specs.declared.Node.{Node}
 use Rattle.rules.specs.declared.Pair.{Pair}
 use Rattle.rules.specs.declared.Row.{Row}
-use Rattle.rules.specs.Tree.{rowAt}
+use Rattle.rules.specs.Tree.{width, rowAt}
 use Rattle.rules.specs.Rows.{good}
 use Rattle.visits.specs.Nodes.{RowGood}
 use Rattle.row.specs.Stands.{Stands}
@@ -28,10 +29,6 @@ pub record PairStands (ps t qs t′ : List ℤ) (n : Pair) : Type 0 where
   pub of-b : NodeStands qs t′ (n .b)
 
 -- ---------------- a pair as the rows of its nodes
--- the node that a row tells of, at its number
-abbrev pub nodeIn : ℕ → Row → Node
-nodeIn row r = record { row = row; first = natAbs (r .first); last = natAbs (r .last) }
-
 -- two rows in one number: A's above, B's in the 32 bits below
 abbrev pub half : ℕ
 half = 2 ^ 32
@@ -45,12 +42,18 @@ rowA rows = rows / half
 abbrev pub rowB : ℕ → ℕ
 rowB rows = rows % half
 
--- the pair that they tell of
+-- the node that a row tells of
+abbrev pub nodeIn : List ℤ → ℕ → Node
+nodeIn t row = record { row = row; first = natAbs (rowAt t row .first); last = natAbs (rowAt t row .last) }
+
 abbrev pub pairIn : List ℤ → List ℤ → ℕ → Pair
-pairIn t t′ rows = record {
-  a = nodeIn (rowA rows) (rowAt t (rowA rows));
-  b = nodeIn (rowB rows) (rowAt t′ (rowB rows));
-}
+pairIn t t′ rows = record { a = nodeIn t (rowA rows); b = nodeIn t′ (rowB rows) }
+
+-- a row is in its table, and its range is one of numbers of points
+pub record TellsNode (t : List ℤ) (row : ℕ) : Type 0 where
+  pub in-table : width * row + width ≤ length t
+  pub first-above : pos 0 ≤ℤ rowAt t row .first
+  pub last-above : pos 0 ≤ℤ rowAt t row .last
 
 -- ---------------- what is read of a node
 -- a node stands, with some table, and its row was read and is good

@@ -13,13 +13,12 @@ ghost use mathlib.Core.Path.{_≡_};
 ghost use mathlib.Core.Bool.{not, _&&_};
 ghost use Prim.Native.Nat.{_<_};
 ghost use lib.Dec.{T};
-ghost use lib.IntN.{pos};
-ghost use lib.Signed.{_≤ℤ_};
 ghost use Rattle.rules.specs.Sheet.{most};
 ghost use Rattle.rules.specs.Tree.{mostRows, rowAt};
 ghost use Rattle.rules.specs.Questions.{leaf};
 ghost use Rattle.limits.specs.Small.{OnSheet};
-ghost use Rattle.meet_visit.specs.Pairs.{HasSplit, Read, PairStands, nodeIn, rowsIn, rowA, rowB, pairIn};
+ghost use Rattle.meet_visit.specs.Pairs.{HasSplit, Read, PairStands};
+ghost use Rattle.meet_visit.specs.Pairs.{rowsIn, rowA, rowB, TellsNode, nodeIn, pairIn};
 ghost use Rattle.meet_visit.specs.Steps.{tested, opened, compared};
 
 // What one visit does, as a number that it hands back in a register: a yes,
@@ -48,28 +47,39 @@ pub fn pack_rows(a: usize, b: usize) -> u64
     a as u64 * HALF + b as u64
 }
 
-pub fn row_of_a(rows: u64) -> usize
+fn row_of_a(rows: u64) -> usize
     ensures { λ r. ⌜ r ≡ rowA rows ⌝ }
 {
     (rows / HALF) as usize
 }
 
-pub fn row_of_b(rows: u64) -> usize
+fn row_of_b(rows: u64) -> usize
     ensures { λ r. ⌜ r ≡ rowB rows ⌝ }
 {
     (rows % HALF) as usize
 }
 
 // The node that a good row tells of.
-pub fn node_of(row: usize, r: Row) -> Node
-    requires { ⌜ (pos 0 ≤ℤ r .first) × (pos 0 ≤ℤ r .last) ⌝ }
-    ensures { λ n. ⌜ n ≡ nodeIn row r ⌝ }
+fn node_at(table: &[i32], row: usize) -> Node
+    requires { ⌜ TellsNode (now table) row ⌝ }
+    ensures { λ n. ⌜ n ≡ nodeIn (now (table .entry)) row ⌝ }
 {
+    let r = row_at(table, row);
     Node {
         row,
         first: r.first as usize,
         last: r.last as usize,
     }
+}
+
+// The pair that good rows tell of.
+pub fn pair_at(table_a: &[i32], table_b: &[i32], rows: u64) -> Pair
+    requires { ⌜ TellsNode (now «table_a») (rowA rows) × TellsNode (now «table_b») (rowB rows) ⌝ }
+    ensures { λ n. ⌜ n ≡ pairIn (now («table_a» .entry)) (now («table_b» .entry)) rows ⌝ }
+{
+    let a = node_at(table_a, row_of_a(rows));
+    let b = node_at(table_b, row_of_b(rows));
+    Pair { a, b }
 }
 
 // The node with more segments splits, A on a tie.
@@ -140,11 +150,10 @@ pub fn visit(
         (now (now («points_b» .entry))) (rowAt (now (now («table_b» .entry))) (rowB rows))
         (pairIn (now (now («table_a» .entry))) (now (now («table_b» .entry))) rows) ⌝ }
 {
-    let at_a = row_of_a(rows);
-    let at_b = row_of_b(rows);
-    let row_a = row_at(*table_a, at_a);
-    let row_b = row_at(*table_b, at_b);
-    let a = node_of(at_a, row_a);
-    let b = node_of(at_b, row_b);
-    compare(*points_a, row_a, *points_b, row_b, Pair { a, b })
+    let pair = pair_at(*table_a, *table_b, rows);
+    let a = pair.a;
+    let b = pair.b;
+    let row_a = row_at(*table_a, a.row);
+    let row_b = row_at(*table_b, b.row);
+    compare(*points_a, row_a, *points_b, row_b, pair)
 }

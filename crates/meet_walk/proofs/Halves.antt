@@ -1,9 +1,9 @@
 -- A pair is halved on one side: its halves have fewer segments, and are pairs to walk from where the row that is new in
 -- them is good; and what is handed back of them says what the walk comes to. Each law is said once, for either side.
-use mathlib.Core.Path.{_≡_, refl, sym, _∙_}
+use mathlib.Core.Path.{_≡_, refl, sym, _∙_, subst}
 use mathlib.Core.Bool.{Bool, true, false, not}
 use mathlib.Core.List.{List}
-use Prim.Native.Nat.{ℕ, pred, _+_, _<_, _≤_}
+use Prim.Native.Nat.{ℕ, pred, _+_, _*_, _<_, _≤_}
 use native.Mathlib.Omega.{arith}
 use borrow.Author.Tests.{not-true, not-false}
 use lib.Dec.{T, leb}
@@ -25,19 +25,27 @@ use Rattle.ending.specs.Ending.{endIn, ENDED, badRow, badSecond, tallyIn, due}
 use Rattle.ending.proofs.OneLevel.{Level, says, whole, below, left-stops, right-goes}
 use Rattle.ending.proofs.OneLevel.{bad-left, second-bad-left, bad-right, second-bad-right}
 use Rattle.meet_visit.specs.Sides.{Side, sideA, sideB, on, lineOn, nodeOn, withNode, leftOn, rightOn}
-use Rattle.meet_visit.specs.Pairs.{goodAt, NodeStands, PairStands}
+use Rattle.meet_visit.specs.Pairs.{goodAt, NodeStands, PairStands, rowsIn, pairIn}
+use Rattle.meet_visit.proofs.GoodRows.{pair-told}
 use Rattle.meet_visit.proofs.Steps.{bad-a, bad-b}
-use Rattle.meet_walk.specs.Pair.{segments}
+use Rattle.meet_walk.specs.Pair.{ahead, segments}
 use Rattle.meet_walk.specs.Walks.{HalvedOn, Walks, WalksOn}
 
 -- ---------------- fewer segments: a half has some, and fewer than the pair, so one level less is enough for it
+-- and its rows come later in the tables
 pub record Fewer (m n : Pair) : Type 0 where
   pub some : 0 < segments m
   pub less : segments m < segments n
+  pub later : ahead m < ahead n
 
-fewer-on : (k : Side) (n : Pair) (m : Node) → m .first < m .last → size m < size (nodeOn k n) → Fewer (withNode k n m) n
-fewer-on sideA n m some less = record { some = omega arith; less = omega arith }
-fewer-on sideB n m some less = record { some = omega arith; less = omega arith }
+fewer-on : {ps t qs t′ : List ℤ} (k : Side) {n : Pair} (h : PairStands ps t qs t′ n) (m : Node)
+    → m .first < m .last → size m < size (nodeOn k n) → nodeOn k n .row < m .row → Fewer (withNode k n m) n
+fewer-on sideA h m some less later =
+    let a = row-small (h .of-a .stands) in
+    let b = row-small (h .of-b .stands) in record { some = omega arith; less = omega arith; later = omega arith }
+fewer-on sideB h m some less later =
+    let a = row-small (h .of-a .stands) in
+    let b = row-small (h .of-b .stands) in record { some = omega arith; less = omega arith; later = omega arith }
 
 enough : {m n : Pair} {f : ℕ} → Fewer m n → segments n ≤ f → segments m ≤ pred f
 enough k h = one-less (k .less) h
@@ -103,6 +111,27 @@ module _ {ps t : List ℤ} {m : Node} (h : Stands ps t m) (v : Level Nothing Pai
     bad-right-on sideA = bad-right v made halves left comes goes tallied more (row-small h)
     bad-right-on sideB = second-bad-right v made halves left comes goes tallied more (row-small h)
 
+-- ---------------- a half that is handed on as its rows
+pub record Handed (ps t qs t′ : List ℤ) (m : Pair) (rows : ℕ) : Type 0 where
+  pub stands : PairStands ps t qs t′ m
+  pub told : pairIn t t′ rows ≡ m
+
+pub handed : {ps t qs t′ : List ℤ} {m : Pair} {rows : ℕ} → PairStands ps t qs t′ m
+    → rows ≡ rowsIn (m .a .row) (m .b .row) → Handed ps t qs t′ m rows
+handed h is = record { stands = h; told = pair-told h is }
+
+module _ {ps t qs t′ : List ℤ} {m : Pair} {rows : ℕ} (h : Handed ps t qs t′ m rows) where
+  -- a walk from there is below one of the pair
+  pub falls-to : {n : Pair} {k : ℕ} → Fewer m n → 3 * ahead n ≡ k
+      → (3 * ahead (pairIn t t′ rows) + 2 < k) × PairStands ps t qs t′ (pairIn t t′ rows)
+  falls-to {k} f e = (
+    subst (λ (p : Pair). 3 * ahead p + 2 < k) (sym (h .told)) (omega (arith, f .later)),
+    subst (PairStands ps t qs t′) (sym (h .told)) (h .stands),
+  )
+
+  pub walked-to : (y : Tally) (r : ℕ) → Walks ps t qs t′ (pairIn t t′ rows) y r → Walks ps t qs t′ m y r
+  walked-to y r w = subst (λ (p : Pair). Walks ps t qs t′ p y r) (h .told) w
+
 -- a row that was asked for is good
 is-good : {g b : Bool} → g ≡ b → not g ≡ false → T b
 is-good said g = T-true (sym said ∙ not-false _ g)
@@ -149,10 +178,11 @@ module _ {k : Side} {ps t qs t′ : List ℤ} {n : Pair} {split : ℕ} (o : Halv
       record { start-on = r .end-on; end-on = tells .end-on }
 
   pub left-fewer : Fewer (leftOn k n split) n
-  left-fewer = fewer-on k n leftNode (o .inner .above) (omega (arith, o .inner))
+  left-fewer = fewer-on k (o .pair-stands) leftNode (o .inner .above) (omega (arith, o .inner)) (omega arith)
 
   pub right-fewer : Fewer (rightOn k n split) n
-  right-fewer = fewer-on k n rightNode (o .inner .below) (omega (arith, o .inner))
+  right-fewer =
+      fewer-on k (o .pair-stands) rightNode (o .inner .below) (omega (arith, o .inner)) (omega (arith, o .inner))
 
   -- a half is a pair to walk from where its row was asked for and is good
   pub left-pair : {g : Bool} → g ≡ goodAt points table leftNode → not g ≡ false

@@ -7,11 +7,13 @@ use Rattle.rules.specs.declared.Line.the-variants.{LineA, LineB}
 use Rattle.rules.specs.declared.Next.the-variants.{Left}
 use Rattle.rules.specs.declared.Pair.{Pair}
 use Rattle.rules.specs.declared.Tally.{Tally}
+use Rattle.rules.specs.Tree.{rowAt}
 use Rattle.rules.specs.Walk.{next, halve, walk}
 use Rattle.rules.specs.Questions.{meetVisit}
 use Rattle.ending.specs.Ending.{walkedIn}
 use Rattle.meet_visit.specs.Sides.{Side, leftOn, rightOn, SplitsOn}
 use Rattle.meet_visit.specs.Pairs.{PairStands}
+use Rattle.meet_visit.specs.Steps.{HALVES, compared}
 use Rattle.meet_walk.specs.Pair.{segments}
 
 -- a visit of a pair whose rows are good halves its node on that side, at an inner point
@@ -19,6 +21,11 @@ pub record HalvedOn (k : Side) (ps t qs t′ : List ℤ) (n : Pair) (split : ℕ
   pub pair-stands : PairStands ps t qs t′ n
   pub inner : SplitsOn k n split
   pub visit : halve (leftOn k n split) (rightOn k n split) ≡ meetVisit ps t qs t′ n
+
+-- a visit of a pair whose rows are good halves its node with more segments
+pub record Opens (ps t qs t′ : List ℤ) (n : Pair) : Type 0 where
+  pub pair-stands : PairStands ps t qs t′ n
+  pub halves : compared ps (rowAt t (n .a .row)) qs (rowAt t′ (n .b .row)) n ≡ HALVES
 
 -- r says what the walk from a pair comes to, with levels enough for its segments
 abbrev pub Walks : List ℤ → List ℤ → List ℤ → List ℤ → Pair → Tally → ℕ → Type 0

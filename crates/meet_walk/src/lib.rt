@@ -1,5 +1,6 @@
 // The walk of MEET from a pair of nodes on. Of a pair only one row is new, so a row is checked before the walk goes to
-// it. `walk` takes a pair whose rows are good, and comes to what the written walk of `rules` comes to from there.
+// it. `walk` takes the rows of a pair, which are good, and comes to what the written walk of `rules` comes to from there;
+// `open` goes on from a pair whose visit was made and halves a node.
 use ending::ENDED;
 use ending::EVEN;
 use ending::SPENT;
@@ -8,38 +9,41 @@ use ending::bad_second_due;
 use ending::pack;
 use ending::stopped;
 use ending::tally_in;
+use meet_visit::FINISHES;
+use meet_visit::PASSES;
 use meet_visit::Step;
+use meet_visit::open_larger;
+use meet_visit::pack_rows;
+use meet_visit::pair_at;
 use meet_visit::visit;
 use row::good_between;
 use row::good_from;
 use row::row_at;
 use rules::Next;
-use rules::Node;
 use rules::Pair;
 use rules::Tally;
 ghost use mathlib.Core.Path.{_≡_};
 ghost use lib.Dec.{T};
 ghost use Rattle.rules.specs.Sheet.{point, onSheet};
-ghost use Rattle.row.specs.Stands.{Stands, EndsOn};
-ghost use Rattle.meet_visit.specs.Pairs.{goodAt, PairStands};
+ghost use Rattle.row.specs.Stands.{Stands, EndsOn, nodeAt};
+ghost use Rattle.meet_visit.specs.Pairs.{goodAt, PairStands, pairIn};
 ghost use Rattle.meet_visit.specs.Sides.{sideA, sideB};
-ghost use Rattle.meet_walk.specs.Pair.{nodeOf, pairOf};
-ghost use Rattle.meet_walk.specs.Walks.{HalvedOn, Walks, WalksOn};
+ghost use Rattle.meet_walk.specs.Walks.{HalvedOn, Opens, Walks, WalksOn};
 
 // Whether the row of a left half is good: it begins where its parent begins, on the sheet.
 fn left_good(points: &[i32], table: &[i32], row: usize, first: usize, last: usize) -> bool
-    requires { ⌜ Stands (now points) (now table) (nodeOf row first last) ⌝ }
+    requires { ⌜ Stands (now points) (now table) (nodeAt row first last) ⌝ }
     requires { ⌜ T (onSheet (point (now points) first)) ⌝ }
-    ensures { λ g. ⌜ g ≡ goodAt (now (points .entry)) (now (table .entry)) (nodeOf row first last) ⌝ }
+    ensures { λ g. ⌜ g ≡ goodAt (now (points .entry)) (now (table .entry)) (nodeAt row first last) ⌝ }
 {
     good_from(points, row_at(table, row), first, last)
 }
 
 // Whether the row of a right half is good: it begins and ends on the sheet.
 fn right_good(points: &[i32], table: &[i32], row: usize, first: usize, last: usize) -> bool
-    requires { ⌜ Stands (now points) (now table) (nodeOf row first last) ⌝ }
-    requires { ⌜ EndsOn (now points) (nodeOf row first last) ⌝ }
-    ensures { λ g. ⌜ g ≡ goodAt (now (points .entry)) (now (table .entry)) (nodeOf row first last) ⌝ }
+    requires { ⌜ Stands (now points) (now table) (nodeAt row first last) ⌝ }
+    requires { ⌜ EndsOn (now points) (nodeAt row first last) ⌝ }
+    ensures { λ g. ⌜ g ≡ goodAt (now (points .entry)) (now (table .entry)) (nodeAt row first last) ⌝ }
 {
     good_between(points, row_at(table, row), first, last)
 }
@@ -65,19 +69,8 @@ fn halve_a(
     if !left_good(*points_a, *table_a, next_row, a.first, split) {
         return bad_row_due(counted, next_row);
     }
-    let left = walk(
-        points_a,
-        table_a,
-        points_b,
-        table_b,
-        next_row,
-        a.first,
-        split,
-        b.row,
-        b.first,
-        b.last,
-        counted,
-    );
+    let left_rows = pack_rows(next_row, b.row);
+    let left = walk(points_a, table_a, points_b, table_b, left_rows, counted);
     if stopped(left) {
         return left;
     }
@@ -86,19 +79,8 @@ fn halve_a(
     if !right_good(*points_a, *table_a, right, split, a.last) {
         return bad_row_due(next, right);
     }
-    walk(
-        points_a,
-        table_a,
-        points_b,
-        table_b,
-        right,
-        split,
-        a.last,
-        b.row,
-        b.first,
-        b.last,
-        next,
-    )
+    let right_rows = pack_rows(right, b.row);
+    walk(points_a, table_a, points_b, table_b, right_rows, next)
 }
 
 // The walk goes on in the halves of B's node, the left half first; a bad row of a half ends it.
@@ -122,19 +104,8 @@ fn halve_b(
     if !left_good(*points_b, *table_b, next_row, b.first, split) {
         return bad_second_due(counted, next_row);
     }
-    let left = walk(
-        points_a,
-        table_a,
-        points_b,
-        table_b,
-        a.row,
-        a.first,
-        a.last,
-        next_row,
-        b.first,
-        split,
-        counted,
-    );
+    let left_rows = pack_rows(a.row, next_row);
+    let left = walk(points_a, table_a, points_b, table_b, left_rows, counted);
     if stopped(left) {
         return left;
     }
@@ -143,60 +114,61 @@ fn halve_b(
     if !right_good(*points_b, *table_b, right, split, b.last) {
         return bad_second_due(next, right);
     }
-    walk(
-        points_a,
-        table_a,
-        points_b,
-        table_b,
-        a.row,
-        a.first,
-        a.last,
-        right,
-        split,
-        b.last,
-        next,
-    )
+    let right_rows = pack_rows(a.row, right);
+    walk(points_a, table_a, points_b, table_b, right_rows, next)
 }
 
-// The walk from a pair on; a yes ends it. Each visit takes the tally and gives the next one back. The pair comes as
-// plain numbers, so that it stays in registers.
-pub fn walk(
+// The walk goes on from a pair whose visit was made and halves the node with more segments.
+pub fn open(
     points_a: &&[i32],
     table_a: &&[i32],
     points_b: &&[i32],
     table_b: &&[i32],
-    row_a: usize,
-    first_a: usize,
-    last_a: usize,
-    row_b: usize,
-    first_b: usize,
-    last_b: usize,
+    rows: u64,
+    counted: Tally,
+) -> u64
+    requires { ⌜ Opens (now (now «points_a»)) (now (now «table_a»)) (now (now «points_b»)) (now (now «table_b»))
+        (pairIn (now (now «table_a»)) (now (now «table_b»)) rows) ⌝ }
+    ensures { λ r. ⌜ WalksOn (now (now («points_a» .entry))) (now (now («table_a» .entry)))
+        (now (now («points_b» .entry))) (now (now («table_b» .entry)))
+        (pairIn (now (now («table_a» .entry))) (now (now («table_b» .entry))) rows) counted r ⌝ }
+{
+    let pair = pair_at(*table_a, *table_b, rows);
+    let a = pair.a;
+    let b = pair.b;
+    let row_a = row_at(*table_a, a.row);
+    let row_b = row_at(*table_b, b.row);
+    match open_larger(row_a, row_b, pair) {
+        Step::HalveA(split) => halve_a(points_a, table_a, points_b, table_b, pair, split, counted),
+        Step::HalveB(split) => halve_b(points_a, table_a, points_b, table_b, pair, split, counted),
+    }
+}
+
+// The walk from a pair on; a yes ends it. Each visit takes the tally and gives the next one back. The visit is a call of
+// its own, so that only what a pair is stays on the stack while its halves are walked.
+fn walk(
+    points_a: &&[i32],
+    table_a: &&[i32],
+    points_b: &&[i32],
+    table_b: &&[i32],
+    rows: u64,
     tally: Tally,
 ) -> u64
     requires { ⌜ PairStands (now (now «points_a»)) (now (now «table_a»)) (now (now «points_b»)) (now (now «table_b»))
-        (pairOf «row_a» «first_a» «last_a» «row_b» «first_b» «last_b») ⌝ }
+        (pairIn (now (now «table_a»)) (now (now «table_b»)) rows) ⌝ }
     ensures { λ r. ⌜ Walks (now (now («points_a» .entry))) (now (now («table_a» .entry)))
         (now (now («points_b» .entry))) (now (now («table_b» .entry)))
-        (pairOf «row_a» «first_a» «last_a» «row_b» «first_b» «last_b») tally r ⌝ }
+        (pairIn (now (now («table_a» .entry))) (now (now («table_b» .entry))) rows) tally r ⌝ }
 {
     let Next::Left(counted) = tally.visit() else {
         return pack(0, SPENT);
     };
-    let a = Node {
-        row: row_a,
-        first: first_a,
-        last: last_a,
-    };
-    let b = Node {
-        row: row_b,
-        first: first_b,
-        last: last_b,
-    };
-    let pair = Pair { a, b };
-    match visit(*points_a, *table_a, *points_b, *table_b, pair) {
-        Step::Finish => pack(counted.visits, ENDED),
-        Step::Pass => pack(counted.visits, EVEN),
-        Step::HalveA(split) => halve_a(points_a, table_a, points_b, table_b, pair, split, counted),
-        Step::HalveB(split) => halve_b(points_a, table_a, points_b, table_b, pair, split, counted),
+    let does = visit(points_a, table_a, points_b, table_b, rows);
+    if does == FINISHES {
+        return pack(counted.visits, ENDED);
     }
+    if does == PASSES {
+        return pack(counted.visits, EVEN);
+    }
+    open(points_a, table_a, points_b, table_b, rows, counted)
 }
