@@ -412,11 +412,13 @@ module _ (t : ℕ) where
       else-halves (n .points-a .now .now) (rowAt (n .table-a .now .now) (pair s .a .row))
       (n .points-b .now .now) (rowAt (n .table-b .now .now) (pair s .b .row)) (pair s)
       in
-      let e = s .pre .0 in
-      (omega arith, record {
-        pair-stands = s .pre .1;
-        halves = omega (arith, small, w .visit2 .ensures, c .before .if1 .left, c .if2 .left);
-      })
+      let e = s .pre .0 in (
+        omega arith,
+        record {
+          pair-stands = s .pre .1;
+          halves = omega (arith, small, w .visit2 .ensures, c .before .if1 .left, c .if2 .left);
+        },
+      )
 
 -- ---------------- the proof: of `halve_a` and `halve_b` in the order of the code, then of `open` and `walk`
 pub +halve-a+halve-b+open+walk-spec : {M : Type 1} → statement M

@@ -1,0 +1,2 @@
+-- What the contracts of `meet` are said with.
+pub mod Roots
