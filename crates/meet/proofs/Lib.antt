@@ -1,2 +1,3 @@
 -- Laws that the proofs of `meet` share.
+pub mod Roots
 pub mod Replies

@@ -1,5 +1,6 @@
 // MEET: whether some segment of line A and some of line B share a point. `meet` takes any slices, and says what `rules`
 // says of them: the refusals of A, then of B, else the answer of the walk from both roots.
+use apart::strips::boxes_apart;
 use ending::answer;
 use ending::bad_row_due;
 use ending::bad_second_due;
@@ -19,13 +20,23 @@ use rules::Word;
 use rules::refuses;
 use rules::says;
 ghost use mathlib.Core.Path.{_≡_};
-ghost use Rattle.rules.specs.Walk.{fresh};
+ghost use Rattle.rules.specs.Walk.{next, over, onVisit, fresh};
 ghost use Rattle.rules.specs.Questions.{yesOrNo, meetWalk, meetReply};
 ghost use Rattle.visits.specs.Fine.{LengthsFine};
 ghost use Rattle.meet_visit.specs.Pairs.{PairStands};
 ghost use Rattle.meet.specs.Roots.{roots};
 
-// The answer from both roots, whose rows are good. The first visit is made here: most lines of a register need no other.
+// The answer where the first visit dismisses the pair of the roots.
+fn at_once(tally: Tally) -> Reply
+    ensures { λ r. ⌜ r ≡ yesOrNo (tally .allowance) (onVisit (next tally) (λ y. over tt y)) ⌝ }
+{
+    let Next::Left(counted) = tally.visit() else {
+        return says(Word::UNDECIDED, tally.allowance);
+    };
+    says(Word::NO, counted.visits)
+}
+
+// The answer from both roots, whose rows are good. The first visit is made here, and halves are walked from there on.
 fn from_good_roots(
     points_a: &[i32],
     table_a: &[i32],
@@ -55,7 +66,8 @@ fn from_good_roots(
     )
 }
 
-// The answer of the walk from both roots, whose rows are checked first.
+// The answer of the walk from both roots, whose rows are checked first. Roots with their boxes apart, as most lines of
+// a register have them, need no walk.
 fn from_roots(
     points_a: &[i32],
     table_a: &[i32],
@@ -74,11 +86,16 @@ fn from_roots(
         allowance,
         visits: 0,
     };
-    if !row_good(points_a, row_at(table_a, 0), 0, last_a) {
+    let r = row_at(table_a, 0);
+    if !row_good(points_a, r, 0, last_a) {
         return answer(bad_row_due(fresh, 0), allowance);
     }
-    if !row_good(points_b, row_at(table_b, 0), 0, last_b) {
+    let q = row_at(table_b, 0);
+    if !row_good(points_b, q, 0, last_b) {
         return answer(bad_second_due(fresh, 0), allowance);
+    }
+    if boxes_apart(r, q) {
+        return at_once(fresh);
     }
     from_good_roots(points_a, table_a, points_b, table_b, fresh)
 }

@@ -1,4 +1,5 @@
--- `from_roots` checks the row of A's root, then that of B's, and asks from good roots on.
+-- `from_roots` checks the row of A's root, then that of B's; roots with their boxes apart are one visit, others are
+-- asked from there on.
 use mathlib.Core.Path.{_≡_, sym, _∙_, ap}
 use mathlib.Core.Bool.{Bool}
 use mathlib.Core.List.{List}
@@ -14,12 +15,15 @@ use Rattle.rules.specs.Sheet.{segmentsOf}
 use Rattle.rules.specs.Tree.{rowAt}
 use Rattle.rules.specs.Rows.{good}
 use Rattle.rules.specs.Walk.{Visit, fresh}
-use Rattle.rules.specs.Questions.{Nothing, yesOrNo, meetVisit}
+use Rattle.rules.specs.Questions.{Nothing, root, boxesApart, yesOrNo, meetVisit}
 use Rattle.ending.specs.Ending.{walkedIn}
 use Rattle.ending.proofs.Dues.{reads-bad-due, reads-second-due}
 use Rattle.row.proofs.Places.{root-stands}
 use Rattle.meet_visit.proofs.Steps.{bad-a, bad-b}
+use Rattle.meet_visit.specs.Pairs.{Read}
+use Rattle.meet_visit.proofs.GoodRows.{placed}
 use Rattle.meet.specs.Roots.{roots}
+use Rattle.meet.proofs.Roots.{boxes-dismiss, dismissed}
 use borrow.Author.Needs.{needs}
 use Rattle.meet.proofs.from_roots.Statement.{statement}
 use Rattle.meet.proofs.from_roots.Tie as tie
@@ -100,16 +104,46 @@ returns-2 c =
     (bad-b _ _ _ _ (both s) (good-a f) bad))
 
 -- ---------------- both rows are good
+read-a : (c : tie.Else1) → Read (ps (start-a c)) (c .before .before .row-at .result) (root (ps (start-a c)))
+read-a c = record {
+  table = start-a c .args .table-a .now;
+  stands = root-stands (start-a c .pre .0);
+  row-good = T-true (sym (c .before .row-good .ensures) ∙ not-false _ (c .if1 .left));
+}
+
+read-b : (c : tie.Else2) → Read (qs (start-b c)) (c .before .before .row-at2 .result) (root (qs (start-b c)))
+read-b c = record {
+  table = start-b c .args .table-b .now;
+  stands = root-stands (start-b c .pre .1);
+  row-good = T-true (sym (c .before .row-good2 .ensures) ∙ not-false _ (c .if2 .left));
+}
+
+returns-3 : tie.Need-returns-3
+returns-3 c =
+    let g = c .before .before .before in
+    let f = past-a g in
+    let s = start-b g in
+    let k = s .args .allowance in
+    let told =
+    c .before .before .boxes-apart .ensures
+    ∙ (λ i. boxesApart (f .before .before .row-at .ensures i) (g .before .before .row-at2 .ensures i))
+    in
+    let passes = boxes-dismiss _ _ _ _ (both s) (good-a f) (good-b g) (sym told ∙ c .before .if3 .taken) in
+    c .at-once .ensures ∙ ap (yesOrNo k) (dismissed (does s) (both s) (fresh k) (levels s) (some s) passes)
+
 from-good-roots-requires : tie.Need-from-good-roots-requires
 from-good-roots-requires c κs =
-    let s = start-b c in
+    let g = c .before .before in
+    let s = start-b g in
     record {
-      of-a = record { stands = root-stands (s .pre .0); row-good = good-a (past-a c) };
-      of-b = record { stands = root-stands (s .pre .1); row-good = good-b c };
+      of-a = record { stands = root-stands (s .pre .0); row-good = good-a (past-a g) };
+      of-b = record { stands = root-stands (s .pre .1); row-good = good-b g };
     }
 
 pub from-roots-spec : {M : Type 1} → statement M
 from-roots-spec =
     tie.close (tie.spec
     (search needs) (search needs) (search needs) (search needs) (search needs) (search needs) returns (search needs)
-    (search needs) (search needs) (search needs) returns-2 from-good-roots-requires (λ c. c .from-good-roots .ensures))
+    (search needs) (search needs) (search needs) returns-2
+    (λ c κs. (placed (read-a (past-a c)) .box-on, placed (read-b c) .box-on)) (search needs) returns-3
+    from-good-roots-requires (λ c. c .from-good-roots .ensures))
