@@ -26,6 +26,7 @@ use Rattle.limits.specs.Small.{OnSheet}
 use Rattle.apart.specs.Placed.{Placed}
 use Rattle.meet_visit.specs.Pairs.{NodeStands, PairStands, HasSplit, Read}
 use Rattle.meet_visit.specs.Pairs.{rowsIn, rowA, rowB, TellsNode, nodeIn, pairIn}
+use Rattle.meet_visit.specs.Steps.{tested, compared}
 use Rattle.limits.proofs.OnSheets.{between-abs, on-sheet}
 
 -- the row of a node that stands, when it is read
@@ -48,6 +49,15 @@ apart-read r q a b h =
     h
     ∙ (λ i. apart r (a .starts i) (direction (a .starts i) (a .ends i))
     q (b .starts i) (direction (b .starts i) (b .ends i)))
+
+pub tested-read : {ps qs : List ℤ} {m n : Node} {p e p′ e′ : Point} {x : ℕ} → EndsRead ps m p e → EndsRead qs n p′ e′
+    → x ≡ tested p e p′ e′ → x ≡ tested (startOf ps m) (endOf ps m) (startOf qs n) (endOf qs n)
+tested-read a b h = h ∙ (λ i. tested (a .starts i) (a .ends i) (b .starts i) (b .ends i))
+
+-- what is done with rows that were read
+pub compared-read : (ps qs : List ℤ) (n : Pair) {r r′ q q′ : Row} {x : ℕ} → r ≡ r′ → q ≡ q′ → x ≡ compared ps r qs q n
+    → x ≡ compared ps r′ qs q′ n
+compared-read ps qs n e f h = h ∙ (λ i. compared ps (e i) qs (f i) n)
 
 -- ---------------- a good row tells its node
 pub range-read : (ps : List ℤ) (r : Row) (first last : ℕ) → T (good ps r first last)

@@ -6,7 +6,7 @@ use Prim.Native.Nat.{ℕ}
 use native.Mathlib.Omega.{arith}
 use Rattle.rules.specs.Questions.{leaf, startOf, endOf}
 use Rattle.meet_visit.specs.Steps.{PASSES, HALVES, tested, nodesApart}
-use Rattle.meet_visit.proofs.GoodRows.{EndsRead, apart-read, ends-on, placed-at}
+use Rattle.meet_visit.proofs.GoodRows.{EndsRead, apart-read, tested-read, ends-on, placed-at}
 use borrow.Author.Needs.{needs}
 use Rattle.meet_visit.proofs.compare.Statement.{statement}
 use Rattle.meet_visit.proofs.compare.Tie as tie
@@ -90,9 +90,7 @@ returns-2 c =
     let l = c .before .before in
     let a = ends-a (pointsRead (kept l)) in
     let b = ends-b (pointsRead (kept l)) in
-    c .test .ensures
-    ∙ (λ i. tested (a .starts i) (a .ends i) (b .starts i) (b .ends i))
-    ∙ kept-by l (c .before .if2 .taken)
+    tested-read a b (c .test .ensures) ∙ kept-by l (c .before .if2 .taken)
 
 pub compare-spec : {M : Type 1} → statement M
 compare-spec =

@@ -5,7 +5,7 @@ use Rattle.rules.specs.declared.Pair.{Pair}
 use Rattle.rules.specs.Tree.{rowAt}
 use Rattle.meet_visit.specs.Pairs.{PairStands, Read}
 use Rattle.meet_visit.specs.Steps.{compared}
-use Rattle.meet_visit.proofs.GoodRows.{tells-node, read-of}
+use Rattle.meet_visit.proofs.GoodRows.{tells-node, read-of, compared-read}
 use borrow.Author.Needs.{needs}
 use Rattle.meet_visit.proofs.visit.Statement.{statement}
 use Rattle.meet_visit.proofs.visit.Tie as tie
@@ -44,9 +44,8 @@ returns c =
     let a = start k .args in
     let n = k .pair-at .result in
     let read : c .compare .result ≡ done (start k) n =
-    c .compare .ensures
-    ∙ (λ i. compared (a .points-a .now .now) (r .before .before .row-at .ensures i)
-    (a .points-b .now .now) (r .row-at2 .ensures i) n)
+    compared-read (a .points-a .now .now) (a .points-b .now .now) n (r .before .before .row-at .ensures)
+    (r .row-at2 .ensures) (c .compare .ensures)
     in
     read ∙ ap (done (start k)) (k .pair-at .ensures)
 
