@@ -6,8 +6,9 @@
 
 A name is what stands in backticks. Where files follow it in parentheses, below crates/, one of them declares it:
 `good` (rules/specs/Rows.antt). In a table with a row "file" the name is declared in the file of its column. Any other
-name is declared somewhere below crates/, `crate::function` in that crate, and a path leads to a file. A citation
-"RULES.md, section 4.2" has its heading, and no file cites a numbered document that the repository does not have.
+name is declared somewhere below crates/ or in the C header, `crate::function` in that crate, and a path leads to a
+file. A citation "RULES.md, section 4.2" has its heading, and no file cites a numbered document that the repository does
+not have.
 """
 import os
 import re
@@ -39,6 +40,7 @@ DECLARED = {
         r"^\s*(?:pub\s+)?(?:(?:extern \"C\"\s+)?(?:fn|struct|enum|const|mod)\s+(\w+)|([A-Z]\w*)(?=[,({]|\s\{))", re.M
     ),
 }
+IN_HEADER = re.compile(r"^(?:#define |    )(KNEUKELBOOM_\w+)", re.M)
 
 
 def read(path):
@@ -64,7 +66,8 @@ class Check:
     def __init__(self, text, sources, naming):
         self.text, self.sources, self.naming = text, sources, naming
         self.crates = {name.split("/")[0] for name in sources}
-        self.everywhere = set().union(*sources.values()) | self.crates | FOREIGN
+        header = set(IN_HEADER.findall(read(ROOT / "include/kneukelboom.h")))
+        self.everywhere = set().union(*sources.values()) | self.crates | header | FOREIGN
         self.checked, self.wrong, self.settled = 0, [], set()
 
     def fault(self, at, what):
@@ -198,6 +201,7 @@ def self_test():
 `good` (rules/specs/Tree.antt, Walk.antt)
 `near-bulit`, `near-built`
 `near::nearer`, `nearr::near`
+`KNEUKELBOOM_STACK_MEET`, `KNEUKELBOOM_LINE_A`, `KNEUKELBOOM_LINE_C`
 `r ≡ nearRepyl ..`, `r ≡ nearReply ..`, `sond`, `docs/check_names.py`, `docs/check_nmaes.py`
 | | of |
 | NEAR | `near-built` |
@@ -205,9 +209,9 @@ def self_test():
 | file | demands/proofs/Built.antt |
 """
     found = Check(text, read_sources(), True).run().wrong
-    assert [line for line, _ in sorted(found)] == [2, 3, 3, 4, 5, 6, 6, 7, 7, 7, 10], found
+    assert [line for line, _ in sorted(found)] == [2, 3, 3, 4, 5, 6, 6, 7, 8, 8, 8, 11], found
     mentioned = Check(text, read_sources(), False).run().wrong
-    assert [line for line, _ in sorted(mentioned)] == [2, 3, 3, 4, 5, 6, 7, 10], mentioned
+    assert [line for line, _ in sorted(mentioned)] == [2, 3, 3, 4, 5, 6, 8, 11], mentioned
     known = sections("## 4. The walks\n### 4.2 Visits\n")
     assert wrong_sections("RULES.md, section 4.2 and RULES.md,\n-- section 4.9", known) == (["4.9"], 2)
     assert wrong_sections("docs/RULES.md, section 4.", known) == ([], 1)

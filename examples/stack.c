@@ -3,7 +3,7 @@
  * longer painted afterwards was used. What a thread takes that calls nothing is taken off.
  *
  * Prints a line for each call: what it asked of which line, the levels of calls that the tables allow, the bytes. Ends
- * with status 1 where a call took more than its bound, or answered otherwise than expected.
+ * with status 1 where a call took more than the header says, or answered otherwise than expected.
  */
 #define _XOPEN_SOURCE 600
 #include "kneukelboom.h"
@@ -11,13 +11,6 @@
 #include <stdio.h>
 #include <stdlib.h>
 #include <string.h>
-
-/* Bytes of stack for lines of so many segments; of meet, for those of both lines together. */
-#define BUILD_STACK(segments) (1024 + 192 * (size_t)(segments))
-#define NEAR_STACK(segments) (1024 + 160 * (size_t)(segments))
-#define INSIDE_STACK(segments) (1024 + 160 * (size_t)(segments))
-#define AGREE_STACK(segments) (1024 + 160 * (size_t)(segments))
-#define MEET_STACK(segments) (1024 + 416 * (size_t)(segments))
 
 #define POINTS KNEUKELBOOM_MOST_POINTS
 #define SEGMENTS (POINTS - 1)
@@ -176,15 +169,13 @@ static size_t bytes_of(question *q) {
 static size_t bound_of(const question *q) {
     switch (q->call) {
     case BUILD:
-        return BUILD_STACK(SEGMENTS);
+        return KNEUKELBOOM_STACK_BUILD(SEGMENTS);
     case NEAR:
-        return NEAR_STACK(SEGMENTS);
     case INSIDE:
-        return INSIDE_STACK(SEGMENTS);
-    case MEET:
-        return MEET_STACK(2 * SEGMENTS);
     case AGREE:
-        return AGREE_STACK(SEGMENTS);
+        return KNEUKELBOOM_STACK_WALK(SEGMENTS);
+    case MEET:
+        return KNEUKELBOOM_STACK_MEET(2 * SEGMENTS);
     default:
         return 0;
     }
@@ -197,7 +188,7 @@ static void measure(const char *said, question q, uint32_t expected) {
     size_t levels = levels_of(&q);
     printf("%-28s %5zu levels %8zu bytes\n", said, levels, bytes);
     if (bytes > bound_of(&q)) {
-        printf("  more than the bound of %zu bytes\n", bound_of(&q));
+        printf("  more than the %zu bytes that the header says\n", bound_of(&q));
         failures++;
     }
     if (q.reply.word != expected) {

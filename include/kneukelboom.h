@@ -3,8 +3,8 @@
  *
  * A line is a list of points in sheet units of 1/16 metre. Its strip tree is built once, into a table that the caller
  * lends; then four questions are asked of line and table: is a point near the line, do two lines meet, does a point lie
- * inside a ring, do two lines agree. The functions are proved: docs/STATEMENTS.md names the theorem for each promise
- * below.
+ * inside a ring, do two lines agree. docs/RULES.md has the rules. The functions are proved: docs/STATEMENTS.md names the
+ * theorem for each promise below.
  *
  * Promises
  *   1. Every call takes every input and ends. Bad input gets its numbered refusal, by a fixed order of checks. A
@@ -86,11 +86,11 @@ extern "C" {
 /*
  * The bytes of stack that a call takes at its deepest, for lines of so many segments: n for build; n for near and
  * inside, the greater of n and m for agree; n + m for meet. A built tree is that deep only where each of its splits
- * lies next to an end. Reckoned from the machine code of the archive, not proved.
+ * lies next to an end. Measured by examples/stack.c, which holds them; not proved.
  */
 #define KNEUKELBOOM_STACK_BUILD(segments) (256 + 192 * (segments))
 #define KNEUKELBOOM_STACK_WALK(segments) (256 + 160 * (segments))
-#define KNEUKELBOOM_STACK_MEET(segments) (256 + 416 * (segments))
+#define KNEUKELBOOM_STACK_MEET(segments) (256 + 144 * (segments))
 
 /* What a reply says: `word`. */
 enum {

@@ -24,7 +24,7 @@ pub const fn walk(levels: usize) -> usize {
 
 /// Of `meet`, for the levels of both trees together.
 pub const fn meet(levels: usize) -> usize {
-    256 + 416 * levels
+    256 + 144 * levels
 }
 
 /// What is always left free: for the frames of this crate, a guard page, a signal's frame.
