@@ -63,7 +63,7 @@ fn strip_apart(row: Row, s: Point, u: Point, other: Row) -> bool
     beyond(u, s, other, row.tmin, row.tmax)
 }
 
-// Whether the nodes are dismissed, from their rows and the points that they begin and end with. A heading is found where
+// Whether the nodes are dismissed, by their rows and the points that they begin and end with. A heading is found where
 // it is asked for: boxes that are apart need none.
 pub fn apart(
     row_a: Row,

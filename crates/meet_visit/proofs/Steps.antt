@@ -23,7 +23,8 @@ use Rattle.row.proofs.Places.{opens}
 use Rattle.meet_visit.specs.declared.Step.{Step}
 use Rattle.meet_visit.specs.Sides.{sideA, sideB, halvesOn}
 use Rattle.meet_visit.specs.Pairs.{goodAt, NodeStands, Read}
-use Rattle.meet_visit.specs.Steps.{stepVisit, SplitsInside, opened, FINISHES, PASSES, HALVES, nodesApart, compared}
+use Rattle.meet_visit.specs.Steps.{stepVisit, SplitsInside, opened}
+use Rattle.meet_visit.specs.Steps.{FINISHES, PASSES, HALVES, nodesApart, compared}
 use Rattle.meet_visit.proofs.GoodRows.{read-of, split-inside}
 
 -- the definition of a visit, in its parts: the segments of two leaves share a point; the pair is not dismissed; and all

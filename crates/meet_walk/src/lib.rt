@@ -1,6 +1,6 @@
 // The walk of MEET from a pair of nodes on. Of a pair only one row is new, so a row is checked before the walk goes to
-// it. `walk` takes the rows of a pair, which are good, and comes to what the written walk of `rules` comes to from there;
-// `open` goes on from a pair whose visit was made and halves a node.
+// it. `walk` takes the rows of a pair, which are good, and comes to what the written walk of `rules` comes to from
+// there; `open` goes on from a pair whose visit was made and halves a node.
 use ending::ENDED;
 use ending::EVEN;
 use ending::SPENT;
@@ -144,8 +144,8 @@ pub fn open(
     }
 }
 
-// The walk from a pair on; a yes ends it. Each visit takes the tally and gives the next one back. The visit is a call of
-// its own, so that only what a pair is stays on the stack while its halves are walked.
+// The walk from a pair on; a yes ends it. Each visit takes the tally and gives the next one back. The visit is a call
+// of its own, so that only what a pair is stays on the stack while its halves are walked.
 fn walk(
     points_a: &&[i32],
     table_a: &&[i32],

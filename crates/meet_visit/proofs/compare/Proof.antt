@@ -1,5 +1,5 @@
--- `compare` dismisses the pair, tests two leaves, or says that a node is halved. The points that it reads are the nodes'
--- ends, and a good row puts them and the boxes where arithmetic is exact.
+-- `compare` dismisses the pair, tests two leaves, or says that a node is halved. The points that it reads are the
+-- nodes' ends, and a good row puts them and the boxes where arithmetic is exact.
 use mathlib.Core.Path.{_≡_, sym, _∙_}
 use mathlib.Core.Bool.{Bool, false, cond, _&&_}
 use Prim.Native.Nat.{ℕ}

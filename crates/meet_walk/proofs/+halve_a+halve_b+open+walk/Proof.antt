@@ -431,7 +431,8 @@ pub +halve-a+halve-b+open+walk-spec : {M : Type 1} → statement M
     (λ c κs. row-small (left-half (left-askedA t (c .before) .pre .1)))
     (λ c. let l = c .before .before in
     left-bad (left-askedA t l .pre .1) (l .left-good .ensures) (c .before .if1 .taken) (c .bad-row-due .ensures))
-    (λ c κs. let o = left-askedA t (c .before) .pre .1 in (row-small (left-half o), row-small (o .pair-stands .of-b .stands)))
+    (λ c κs. let o = left-askedA t (c .before) .pre .1 in
+    (row-small (left-half o), row-small (o .pair-stands .of-b .stands)))
     (λ c κs. let s = left-askedA t (c .before .before) .pre in
     falls-to (left-toldA t c) (left-fewer (s .1)) (s .0))
     -- the left half is walked, and stops
@@ -465,7 +466,8 @@ pub +halve-a+halve-b+open+walk-spec : {M : Type 1} → statement M
     (λ c κs. row-small (left-half (left-askedB t (c .before) .pre .1)))
     (λ c. let l = c .before .before in
     left-bad (left-askedB t l .pre .1) (l .left-good .ensures) (c .before .if1 .taken) (c .bad-second-due .ensures))
-    (λ c κs. let o = left-askedB t (c .before) .pre .1 in (row-small (o .pair-stands .of-a .stands), row-small (left-half o)))
+    (λ c κs. let o = left-askedB t (c .before) .pre .1 in
+    (row-small (o .pair-stands .of-a .stands), row-small (left-half o)))
     (λ c κs. let s = left-askedB t (c .before .before) .pre in
     falls-to (left-toldB t c) (left-fewer (s .1)) (s .0))
     -- the left half is walked, and stops

@@ -46,7 +46,9 @@ by-strips c e =
     let a = start c .args in
     let f = sym (c .before .before .if1 .left) ∙ c .before .before .before .boxes-apart .ensures in
     let g =
-    sym e ∙ c .strip-apart .ensures ∙ (λ i. stripApart (a .row-a) (a .start-a) (c .before .direction .ensures i) (a .row-b))
+    sym e
+    ∙ c .strip-apart .ensures
+    ∙ (λ i. stripApart (a .row-a) (a .start-a) (c .before .direction .ensures i) (a .row-b))
     in
     λ i. byTests (start c) (f i) (g i)
 
