@@ -27,6 +27,7 @@ use Rattle.records.specs.Left.{Numbers, Slices, textLeft, byteLeft, chunkLeft}
 use Rattle.records.specs.Built.{builtIn, textBuilt, byteBuilt, chunkBuilt}
 use Rattle.records.specs.Carried.{deskOf, Bounds}
 use Rattle.records.specs.Takes.{TakesText}
+use Rattle.byte.specs.declared.Fed.{Fed}
 use Rattle.byte.specs.Feeds.{carryOf, Feeds}
 
 module _ (c : Carry) (b : ℕ) where
@@ -109,3 +110,9 @@ module _ {s : State} (l : Slices) (bounds : Bounds s) {byte : ℕ} (out : List �
         bounds = taken .bounds;
         read = omega arith;
       }
+
+-- What a line feed comes to is what the byte comes to, where the byte is one.
+pub fed-byte : {s : State} (l after : Slices) {byte : ℕ} {before out : List ℕ} {at : ℕ} {r : Fed} →
+    byte ≡ lineFeed → Feeds s l (lineFeed ∷ []) before at r after out → Feeds s l (byte ∷ []) before at r after out
+fed-byte {s} l after {before = before} {out = out} {at = at} {r = r} e =
+    subst (λ (byte : ℕ). Feeds s l (byte ∷ []) before at r after out) (sym e)

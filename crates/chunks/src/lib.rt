@@ -1,6 +1,7 @@
 // The question program on slices: what a chunk of bytes prints. `feed` and `finish` say it by the definitions of
 // `desk`, however the input is cut into chunks, and what every lent slice holds afterwards.
 use byte::Fed;
+use byte::end_text;
 use byte::feed_byte;
 use desk::Held;
 use rules::Line;
@@ -93,6 +94,6 @@ pub fn finish(
         return 0;
     }
     let fed = Fed { state, wrote: 0 };
-    let last = feed_byte(fed, a, b, table_a, table_b, text, b'\n', out);
+    let last = end_text(fed, a, b, table_a, table_b, text, out);
     last.wrote
 }

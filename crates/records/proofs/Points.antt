@@ -2,7 +2,7 @@
 use mathlib.Core.Path.{_≡_, refl, sym, _∙_, ap}
 use mathlib.Core.Bool.{Bool, true, false, cond}
 use mathlib.Core.List.{List, [], _∷_, _++_}
-use Prim.Native.Nat.{ℕ, _≤_}
+use Prim.Native.Nat.{ℕ}
 use lib.Dec.{ltb}
 use lib.IntN.{ℤ}
 use Rattle.rules.specs.declared.Line.{Line}
@@ -10,7 +10,7 @@ use Rattle.rules.specs.declared.Line.the-variants.{LineA, LineB}
 use Rattle.rules.specs.Sheet.{pointsOf}
 use Rattle.desk.specs.declared.Held.{Held}
 use Rattle.desk.specs.Desk.{Store, room, Desk, storeOf, putStore, Taken, quiet, saying, refusedAt, addPoint, takePoint}
-use Rattle.desk.specs.Kept.{storeIn, Stored}
+use Rattle.desk.specs.Kept.{Stored}
 use Rattle.store.specs.declared.State.{State}
 use Rattle.store.specs.declared.Outcome.{Outcome}
 use Rattle.store.specs.States.{pointLeft, withPoint, Adds, withA, withB, quietly, sayingly}

@@ -1,6 +1,5 @@
 -- A line whose table is built stays ready, whatever is read: what changes its points makes its table built no more, and
 -- what readies it leaves it ready. So the tables that are kept are those that building would leave.
-use mathlib.Core.Path.{_≡_}
 use mathlib.Core.Bool.{Bool, true, false, cond, false≢true}
 use mathlib.Core.List.{List, [], _∷_, _++_}
 use Prim.Native.Nat.{ℕ}

@@ -6,7 +6,6 @@ use Prim.Native.Nat.{ℕ, _<_}
 use lib.Dec.{ltb}
 use lib.IntN.{ℤ}
 use Rattle.rules.specs.declared.Line.{Line}
-use Rattle.rules.specs.declared.Reply.{Reply}
 use Rattle.words.specs.declared.Record.{Record}
 use Rattle.desk.specs.Desk.{room, Taken, refusedAt, takePoint, takeRecord, takeText}
 use Rattle.store.specs.declared.State.{State}

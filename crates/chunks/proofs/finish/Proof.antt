@@ -9,15 +9,14 @@ use Rattle.chunks.proofs.finish.Tie as tie
 abbrev start : tie.After-struct-known → tie.Start
 start p = p .before .before .before
 
-abbrev pending : tie.After-feed-byte → tie.Else1
+abbrev pending : tie.After-end-text → tie.Else1
 pending p =
     let fifth = p .before .before in
     let second = fifth .before .before .before in second .before .before
 
-abbrev ended : tie.After-slice-known4 → tie.After-feed-byte
+abbrev ended : tie.After-slice-known3 → tie.After-end-text
 ended c =
-    let text = c .before .before .before in
-    let second = text .before .before .before in second .before .before
+    let table = c .before .before .before in table .before .before .before
 
 abbrev lent : tie.Start → Slices
 lent s = slices (s .args .a .now) (s .args .b .now) (s .args .table-a .now) (s .args .table-b .now) (s .args .text .now)
@@ -27,14 +26,14 @@ returns c = let s = start (c .before) in last-none (s .args .state) (lent s) (s 
 
 returns-2 : tie.Need-returns-2
 returns-2 c =
-    let fed = ended c in
-    let some = pending fed in
+    let end = ended c in
+    let some = pending end in
     let s = start (some .before) in
-    let left = fed .feed-byte .last .1 in
+    let left = end .end-text .last .1 in
     last-ends (s .args .state) (lent s) (s .args .out .now)
-    (slices (left .0) (left .1 .0) (left .1 .1 .0) (left .1 .1 .1 .0) (left .1 .1 .1 .1 .0)) (s .pre .1 .0 .0)
+    (slices (left .0) (left .1 .0) (left .1 .1 .0) (left .1 .1 .1 .0) (s .args .text .now)) (s .pre .1 .0 .0)
     (s .pre .0 .1) (some .if1 .left)
-    (fed .feed-byte .ensures)
+    (end .end-text .ensures)
 
 pub finish-spec : {M : Type 1} → statement M
 finish-spec =

@@ -3,7 +3,7 @@ use mathlib.Core.Path.{refl, sym, _∙_, ap}
 use mir.Syntax.{w32}
 use mir.Facts.{toZ-ofZ}
 use Rattle.rules.specs.declared.Line.{Line}
-use Rattle.desk.specs.Desk.{Desk, saying, takePoint}
+use Rattle.desk.specs.Desk.{saying, takePoint}
 use Rattle.store.specs.declared.Outcome.{Outcome}
 use Rattle.records.specs.Left.{both, storesLeft}
 use Rattle.records.specs.Built.{builtIn, pointsChange}

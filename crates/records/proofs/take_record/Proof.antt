@@ -1,7 +1,6 @@
 -- `take_record`: LINE and PT change what is stored, and any other record is answered.
 use mathlib.Core.Path.{_≡_, refl, sym, _∙_, ap, subst⁻¹}
 use Prim.Native.Nat.{_<_}
-use lib.IntN.{ℤ}
 use mir.Syntax.{w32}
 use mir.Val.{SFits}
 use mir.Facts.{toZ-ofZ}
