@@ -10,9 +10,9 @@ ghost use Prim.Native.Nat.{_+_, _≤_, _<_, _^_};
 ghost use lib.ListN.{length};
 ghost use Rattle.words.specs.Fields.{lineFeed};
 ghost use Rattle.print.specs.Printed.{widest};
-ghost use Rattle.desk.specs.Kept.{storeIn, keptBytes};
-ghost use Rattle.records.specs.Left.{both, slices};
-ghost use Rattle.records.specs.Built.{builtIn, AllAsBuilt};
+ghost use Rattle.desk.specs.Kept.{keptBytes};
+ghost use Rattle.records.specs.Left.{slices};
+ghost use Rattle.records.specs.Built.{StaysReady};
 ghost use Rattle.records.specs.Carried.{Lent, Bounds};
 ghost use Rattle.byte.specs.Feeds.{Feeds};
 
@@ -33,8 +33,7 @@ pub fn end_text(
     out: &mut [u8],
 ) -> Fed
     requires { ⌜ Lent (now a) (now b) (now «table_a») (now «table_b») × Bounds (fed .state)
-        × AllAsBuilt (builtIn (fed .state)) (storeIn (fed .state .a) (now a)) (storeIn (fed .state .b) (now b))
-        (both (now «table_a») (now «table_b»)) ⌝ }
+        × StaysReady (fed .state) (now a) (now b) (now «table_a») (now «table_b») ⌝ }
     requires { ⌜ (length (now text) ≡ keptBytes) × (fed .wrote + widest ≤ length (now out)) ⌝ }
     requires { ⌜ fed .state .read + 1 < 2 ^ 64 ⌝ }
     ensures { λ r. ⌜ Feeds (fed .state)
@@ -65,8 +64,7 @@ pub fn feed_byte(
     out: &mut [u8],
 ) -> Fed
     requires { ⌜ Lent (now a) (now b) (now «table_a») (now «table_b») × Bounds (fed .state)
-        × AllAsBuilt (builtIn (fed .state)) (storeIn (fed .state .a) (now a)) (storeIn (fed .state .b) (now b))
-        (both (now «table_a») (now «table_b»)) ⌝ }
+        × StaysReady (fed .state) (now a) (now b) (now «table_a») (now «table_b») ⌝ }
     requires { ⌜ (length (now text) ≡ keptBytes) × (fed .wrote + widest ≤ length (now out)) ⌝ }
     requires { ⌜ fed .state .read + 1 < 2 ^ 64 ⌝ }
     ensures { λ r. ⌜ Feeds (fed .state)

@@ -5,6 +5,7 @@ use mathlib.Core.Bool.{false, cond}
 use mathlib.Core.List.{List, [], _∷_}
 use Prim.Native.Nat.{ℕ}
 use lib.Dec.{eqb}
+use lib.IntN.{ℤ}
 use Rattle.rules.specs.declared.Line.{Line}
 use Rattle.rules.specs.declared.Line.the-variants.{NoLine, LineA, LineB}
 use Rattle.words.specs.declared.Record.{Record}
@@ -13,12 +14,13 @@ use Rattle.words.specs.Fields.{lineFeed}
 use Rattle.words.specs.Records.{recordOf}
 use Rattle.desk.specs.Desk.{Store, Desk, countText}
 use Rattle.desk.specs.Chunks.{Carry, carryByte}
+use Rattle.desk.specs.Kept.{storeIn}
 use Rattle.ready.specs.declared.TablesBuilt.{TablesBuilt}
 use Rattle.ready.specs.Left.{builtOf, builtAfter, AsBuilt}
 use Rattle.answers.specs.Asked.{neededBy}
 use Rattle.store.specs.declared.State.{State}
 use Rattle.store.specs.States.{withA, withB}
-use Rattle.records.specs.Left.{Both, Slices, byteLeft}
+use Rattle.records.specs.Left.{Both, both, Slices, byteLeft}
 
 -- ---- as a state has it
 abbrev pub builtIn : State → TablesBuilt
@@ -67,3 +69,8 @@ chunkBuilt c l k (b ∷ bs) = chunkBuilt (carryByte c b) (byteLeft c l b) (byteB
 pub record AllAsBuilt (k : TablesBuilt) (storeA storeB : Store) (t : Both) : Type 0 where
   pub a : AsBuilt (k .a) storeA (t .a)
   pub b : AsBuilt (k .b) storeB (t .b)
+
+-- .. of the stores and tables that a state is carried beside
+abbrev pub StaysReady : State → List ℤ → List ℤ → List ℤ → List ℤ → Type 0
+StaysReady s a b tableA tableB =
+    AllAsBuilt (builtIn s) (storeIn (s .a) a) (storeIn (s .b) b) (both tableA tableB)
