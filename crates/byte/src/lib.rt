@@ -12,7 +12,7 @@ ghost use Rattle.words.specs.Fields.{lineFeed};
 ghost use Rattle.print.specs.Printed.{widest};
 ghost use Rattle.desk.specs.Kept.{keptBytes};
 ghost use Rattle.records.specs.Left.{slices};
-ghost use Rattle.records.specs.Built.{StaysReady};
+ghost use Rattle.records.specs.Built.{StateAsBuilt};
 ghost use Rattle.records.specs.Carried.{Lent, Bounds};
 ghost use Rattle.byte.specs.Feeds.{Feeds};
 
@@ -33,7 +33,7 @@ pub fn end_text(
     out: &mut [u8],
 ) -> Fed
     requires { ⌜ Lent (now a) (now b) (now «table_a») (now «table_b») × Bounds (fed .state)
-        × StaysReady (fed .state) (now a) (now b) (now «table_a») (now «table_b») ⌝ }
+        × StateAsBuilt (fed .state) (now a) (now b) (now «table_a») (now «table_b») ⌝ }
     requires { ⌜ (length (now text) ≡ keptBytes) × (fed .wrote + widest ≤ length (now out)) ⌝ }
     requires { ⌜ fed .state .read + 1 < 2 ^ 64 ⌝ }
     ensures { λ r. ⌜ Feeds (fed .state)
@@ -64,7 +64,7 @@ pub fn feed_byte(
     out: &mut [u8],
 ) -> Fed
     requires { ⌜ Lent (now a) (now b) (now «table_a») (now «table_b») × Bounds (fed .state)
-        × StaysReady (fed .state) (now a) (now b) (now «table_a») (now «table_b») ⌝ }
+        × StateAsBuilt (fed .state) (now a) (now b) (now «table_a») (now «table_b») ⌝ }
     requires { ⌜ (length (now text) ≡ keptBytes) × (fed .wrote + widest ≤ length (now out)) ⌝ }
     requires { ⌜ fed .state .read + 1 < 2 ^ 64 ⌝ }
     ensures { λ r. ⌜ Feeds (fed .state)

@@ -13,7 +13,7 @@ ghost use Rattle.print.specs.Printed.{widest};
 ghost use Rattle.desk.specs.Chunks.{begun};
 ghost use Rattle.desk.specs.Kept.{keptBytes};
 ghost use Rattle.records.specs.Left.{Slices, slices};
-ghost use Rattle.records.specs.Built.{builtIn, noneBuilt, StaysReady};
+ghost use Rattle.records.specs.Built.{builtIn, noneBuilt, StateAsBuilt};
 ghost use Rattle.records.specs.Carried.{Lent, Bounds};
 ghost use Rattle.byte.specs.Feeds.{carryOf, Feeds};
 ghost use Rattle.chunks.specs.Finishes.{Finishes};
@@ -50,7 +50,7 @@ pub fn feed(
     out: &mut [u8],
 ) -> Fed
     requires { ⌜ Lent (now a) (now b) (now «table_a») (now «table_b») × Bounds state
-        × StaysReady state (now a) (now b) (now «table_a») (now «table_b») ⌝ }
+        × StateAsBuilt state (now a) (now b) (now «table_a») (now «table_b») ⌝ }
     requires { ⌜ (length (now text) ≡ keptBytes) × (widest * length (now chunk) ≤ length (now out)) ⌝ }
     requires { ⌜ state .read + length (now chunk) < 2 ^ 64 ⌝ }
     ensures { λ r. ⌜ Feeds state
@@ -79,7 +79,7 @@ pub fn finish(
     out: &mut [u8],
 ) -> usize
     requires { ⌜ Lent (now a) (now b) (now «table_a») (now «table_b») × Bounds state
-        × StaysReady state (now a) (now b) (now «table_a») (now «table_b») ⌝ }
+        × StateAsBuilt state (now a) (now b) (now «table_a») (now «table_b») ⌝ }
     requires { ⌜ (length (now text) ≡ keptBytes) × (widest ≤ length (now out)) ⌝ }
     requires { ⌜ state .read + 1 < 2 ^ 64 ⌝ }
     ensures { λ r. ⌜ Finishes state

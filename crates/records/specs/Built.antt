@@ -71,6 +71,6 @@ pub record AllAsBuilt (k : TablesBuilt) (storeA storeB : Store) (t : Both) : Typ
   pub b : AsBuilt (k .b) storeB (t .b)
 
 -- .. of the stores and tables that a state is carried beside
-abbrev pub StaysReady : State → List ℤ → List ℤ → List ℤ → List ℤ → Type 0
-StaysReady s a b tableA tableB =
+abbrev pub StateAsBuilt : State → List ℤ → List ℤ → List ℤ → List ℤ → Type 0
+StateAsBuilt s a b tableA tableB =
     AllAsBuilt (builtIn s) (storeIn (s .a) a) (storeIn (s .b) b) (both tableA tableB)

@@ -19,7 +19,7 @@ ghost use Prim.Native.Nat.{_+_, _*_, _<_, _^_};
 ghost use lib.ListN.{length};
 ghost use Rattle.desk.specs.Desk.{room};
 ghost use Rattle.records.specs.Left.{both, numbers};
-ghost use Rattle.records.specs.Built.{withBuilt, StaysReady};
+ghost use Rattle.records.specs.Built.{withBuilt, StateAsBuilt};
 ghost use Rattle.records.specs.Carried.{Lent, Bounds};
 ghost use Rattle.records.specs.Takes.{Ready, pointSaid, TakesPoint, TakesRecord, TakesText};
 
@@ -81,7 +81,7 @@ fn take_record(
     record: Record,
 ) -> Outcome
     requires { ⌜ Lent (now a) (now b) (now «table_a») (now «table_b») × Ready state
-        × StaysReady state (now a) (now b) (now «table_a») (now «table_b») ⌝ }
+        × StateAsBuilt state (now a) (now b) (now «table_a») (now «table_b») ⌝ }
     ensures { λ r. ⌜ TakesRecord state «record»
         (numbers (now (a .entry)) (now (b .entry)) (now («table_a» .entry)) (now («table_b» .entry))) r
         (numbers (now (a .exit)) (now (b .exit)) (now («table_a» .exit)) (now («table_b» .exit))) ⌝ }
@@ -110,7 +110,7 @@ pub fn take_text(
     text: &[u8],
 ) -> Outcome
     requires { ⌜ Lent (now a) (now b) (now «table_a») (now «table_b») × Bounds state
-        × StaysReady state (now a) (now b) (now «table_a») (now «table_b») ⌝ }
+        × StateAsBuilt state (now a) (now b) (now «table_a») (now «table_b») ⌝ }
     requires { ⌜ state .read + 1 < 2 ^ 64 ⌝ }
     ensures { λ r. ⌜ TakesText state (now (text .entry))
         (numbers (now (a .entry)) (now (b .entry)) (now («table_a» .entry)) (now («table_b» .entry))) r
