@@ -3,8 +3,8 @@
  *
  * A line is a list of points in sheet units of 1/16 metre. Its strip tree is built once, into a table that the caller
  * lends; then four questions are asked of line and table: is a point near the line, do two lines meet, does a point lie
- * inside a ring, do two lines agree. docs/RULES.md has the rules. The functions are proved: docs/STATEMENTS.md names the
- * theorem for each promise below.
+ * inside a ring, do two lines agree. docs/RULES.md has the rules. The functions are proved: docs/STATEMENTS.md names
+ * the theorem for each promise below.
  *
  * Promises
  *   1. Every call takes every input and ends. Bad input gets its numbered refusal, by a fixed order of checks. A
@@ -86,7 +86,8 @@ extern "C" {
 /*
  * The bytes of stack that a call takes at its deepest, for lines of so many segments: n for build; n for near and
  * inside, the greater of n and m for agree; n + m for meet. A built tree is that deep only where each of its splits
- * lies next to an end. Measured by examples/stack.c, which holds them; not proved.
+ * lies next to an end. Not proved: examples/stack.c measures it, on lines of 4,097 points (build 786,448 bytes, near
+ * 655,416, inside 655,408, agree 655,576, meet 1,179,720), and fails where that is more than is said here.
  */
 #define KNEUKELBOOM_STACK_BUILD(segments) (256 + 192 * (segments))
 #define KNEUKELBOOM_STACK_WALK(segments) (256 + 160 * (segments))
