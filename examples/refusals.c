@@ -3,7 +3,7 @@
 #include <stdio.h>
 
 int main(void) {
-    for (unsigned number = 0; number <= KNEUKELBOOM_REFUSED_CHILD_PAST_END + 1; number++)
+    for (unsigned number = 0; number <= KNEUKELBOOM_REFUSED_BAD_ROW + 1; number++)
         printf("%u: %s\n", number, kneukelboom_sentence(number));
     return 0;
 }

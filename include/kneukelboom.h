@@ -114,7 +114,7 @@ enum {
 
 /*
  * Why a call was refused: `number`. Checked in this order: a build 1 to 6; a question 1, 2, 3, 6 (A wholly, then B),
- * then 7, 8 (in agree as each point comes up), 9, then 10 and 11 as it walks. Points and rows are counted from 0; the
+ * then 7, 8 (in agree as each point comes up), 9, then 10 as it walks. Points and rows are counted from 0; the
  * place is 0 where none is named here. The line is the one whose points or table are at fault: A where a call has one
  * line; 7, and 8 outside agree, have none. (12 and 13 are the question program's own.)
  */
@@ -128,10 +128,8 @@ enum {
     KNEUKELBOOM_REFUSED_DISTANCE = 7,         /* distance outside 0 to 32,767 */
     KNEUKELBOOM_REFUSED_ASKED_OFF_SHEET = 8,  /* asked point off the sheet; place: in agree the point's index, else 0 */
     KNEUKELBOOM_REFUSED_NO_RING = 9,          /* inside: fewer than 4 points, or first and last differ */
-    KNEUKELBOOM_REFUSED_BAD_ROW = 10,         /* a row that was read at a visit is bad: the table is not this line's;
+    KNEUKELBOOM_REFUSED_BAD_ROW = 10          /* a row that was read at a visit is bad: the table is not this line's;
                                                  place: the row */
-    KNEUKELBOOM_REFUSED_CHILD_PAST_END = 11   /* a child's row is not below 2n-1 (the checks of 10 leave it no case);
-                                                 place: the parent's row */
 };
 
 /* The sentence of a refusal's number; any other number gets one that says so. */
@@ -148,7 +146,6 @@ static inline const char *kneukelboom_sentence(uint32_t number) {
     case KNEUKELBOOM_REFUSED_NO_RING:
         return "the line is no ring: it has fewer than 4 points, or does not end where it begins";
     case KNEUKELBOOM_REFUSED_BAD_ROW: return "a row of the table of the line is bad";
-    case KNEUKELBOOM_REFUSED_CHILD_PAST_END: return "a row of the table of the line leads past the last row";
     default: return "no refusal of the library has this number";
     }
 }

@@ -1,7 +1,7 @@
 //! What the rules say, written out number by number where definition, code and second reading could err alike: which
 //! of two reasons to refuse is told, and what a strip dismisses. `compare` asks both readings each time.
 
-use compare::{agree, inside, meet, Lent};
+use compare::{agree, inside, meet, near, Lent};
 use kneukelboom::lent::{line, word, Reply};
 use kneukelboom::{FARTHEST, ROW_WIDTH};
 
@@ -47,19 +47,21 @@ fn unfit() -> Vec<(u32, Lent)> {
     ]
 }
 
+/// The built line with one number of its table changed.
+fn changed(points: &[i32], row: usize, column: usize, value: i32) -> Lent {
+    let mut line = Lent::built(points);
+    line.table[ROW_WIDTH * row + column] = value;
+    line
+}
+
 /// Lines of which the root row is bad, with the reason: each that the rules name.
 fn bad_roots() -> Vec<(&'static str, Lent)> {
-    let row_of_l = |k: usize, value: i32| {
-        let mut line = Lent::built(&L);
-        line.table[k] = value;
-        line
-    };
+    let row_of_l = |column: usize, value: i32| changed(&L, 0, column, value);
     let moved = |line: &[i32], points: &[i32]| Lent {
         points: points.to_vec(),
         ..Lent::built(line)
     };
-    let mut leaf = Lent::built(&[0, 0, 4, 3]);
-    leaf.table[2] = 0;
+    let leaf = changed(&[0, 0, 4, 3], 0, 2, 0);
     vec![
         ("first is not 0", row_of_l(0, 1)),
         ("last is not 2", row_of_l(1, 1)),
@@ -182,6 +184,24 @@ fn meet_reads_a_before_b() {
 /// Three sides of a diamond: u is (1, 1), c is y - x and -2 to 0, t is x + y and 0 to 2, the box is 0 to 2 by -1 to 1.
 /// Each corner of the box lies outside another side of the strip.
 const DIAMOND: [i32; 8] = [0, 0, 1, -1, 2, 0, 1, 1];
+
+/// A split or a range that would lead past the last row is refused at the row that tells it, on its visit.
+#[test]
+fn a_row_that_leads_astray_is_10_at_its_own_row() {
+    let (last, split) = (1, 2);
+    for (row, column, value, visits) in [
+        (0, split, 2, 1),
+        (0, split, 2_000_000_000, 1),
+        (0, last, 3, 1),
+        (2, split, 1, 3),
+    ] {
+        let refusal = refused(10, line::LINE_A, row as u64, visits);
+        assert_eq!(near(&changed(&L, row, column, value), 4, 0, 2, 9), refusal);
+    }
+    let one_higher = changed(&[0, 1, 4, 4, 8, 1], 0, split, 2);
+    let refusal = refused(10, line::LINE_B, 0, 1);
+    assert_eq!(meet(&Lent::built(&L), &one_higher, 99), refusal);
+}
 
 #[test]
 fn meet_asks_both_strips_by_c_and_by_t() {

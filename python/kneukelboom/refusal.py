@@ -9,7 +9,7 @@ class Refusal(ValueError):
     """Why a line was not built or a question was not answered.
 
     Each number comes exactly when its reason is the first, in a fixed order, that holds. `line` is "A" (the line asked)
-    or "B" (the other), whichever is at fault, or None; `place` a point (4, 5, 8 of agree) or a row (10, 11), counted
+    or "B" (the other), whichever is at fault, or None; `place` a point (4, 5, 8 of agree) or a row (10), counted
     from 0, else 0; `visits` the visits made before.
 
     >>> refusal = Refusal(number=4, line="A", place=1)
@@ -39,5 +39,4 @@ class Refusal(ValueError):
             8: f"point {place} of {line} is off the sheet",
             9: f"{line} is no ring: it has fewer than 4 points, or does not end where it begins",
             10: f"row {place} of the table of {line} is bad (visit {self.visits})",
-            11: f"row {place} of the table of {line} leads past the last row (visit {self.visits})",
         }.get(self.number, "no refusal of the library has this number")

@@ -33,11 +33,11 @@ impl fmt::Display for Name {
 /// ```
 #[derive(Clone, Copy, PartialEq, Eq, Hash, Debug)]
 pub struct Refusal {
-    /// 1 to 11.
+    /// 1 to 10.
     pub number: u32,
     /// The line whose points or table are at fault, where one is.
     pub line: Option<Name>,
-    /// A point (4, 5, 8 in agree) or a row (10, 11), counted from 0; else 0.
+    /// A point (4, 5, 8 in agree) or a row (10), counted from 0; else 0.
     pub place: usize,
     /// The visits made before.
     pub visits: u32,
@@ -64,8 +64,6 @@ impl Refusal {
     pub const NO_RING: u32 = 9;
     /// A bad row, read at a visit: the table is not this line's.
     pub const BAD_ROW: u32 = 10;
-    /// A row that leads past the last row; the checks of a bad row leave it no case.
-    pub const CHILD_PAST_END: u32 = 11;
 }
 
 impl fmt::Display for Refusal {
@@ -103,10 +101,6 @@ impl fmt::Display for Refusal {
             (Refusal::BAD_ROW, Some(line)) => write!(
                 f,
                 "row {place} of the table of {line} is bad (visit {visits})"
-            ),
-            (Refusal::CHILD_PAST_END, Some(line)) => write!(
-                f,
-                "row {place} of the table of {line} leads past the last row (visit {visits})"
             ),
             (_, Some(line)) => write!(f, "place {place} of {line}"),
             (_, None) => write!(f, "place {place}"),

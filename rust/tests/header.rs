@@ -401,7 +401,6 @@ fn numbers_are_the_headers() {
         ("REFUSED_ASKED_OFF_SHEET", Refusal::ASKED_OFF_SHEET),
         ("REFUSED_NO_RING", Refusal::NO_RING),
         ("REFUSED_BAD_ROW", Refusal::BAD_ROW),
-        ("REFUSED_CHILD_PAST_END", Refusal::CHILD_PAST_END),
     ] {
         assert_eq!(
             header_number(&format!("KNEUKELBOOM_{name}")),

@@ -7,8 +7,8 @@
 //!
 //! Refusals that come through the program: 2, 4, 5, 7, 8, 9, 12 and 13. Those that cannot:
 //! 1 (the store hands over whole points), 3 (a line of 258 points is 13 long before), 6 (the
-//! program's tables have room for 257 points), 10 and 11 (it reads only tables it has just built),
-//! and 8 in AGREE (a point off the sheet is 4 when its line is built).
+//! program's tables have room for 257 points), 10 (it reads only tables it has just built), and 8
+//! in AGREE (a point off the sheet is 4 when its line is built).
 
 use std::io::{self, BufWriter, Write};
 

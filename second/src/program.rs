@@ -481,7 +481,7 @@ mod tests {
     }
 
     #[test]
-    fn whole_case_of_document_01() {
+    fn whole_case_of_the_rules() {
         let input = "LINE A\nPT 0 0\nPT 4 3\nPT 8 0\nNEAR 4 5 2 10\nNEAR 4 5 2 1\nMEET 9\n";
         let expected = "1 YES 2 0 - 0\n2 UNDECIDED 1 0 - 0\n3 REFUSED 0 2 B 0\n";
         assert_eq!(shown(input), expected);

@@ -190,11 +190,10 @@ impl Node {
         self.last - self.first
     }
 
-    /// The left and the right child.
+    /// The left and the right half, at a split strictly between first and last.
     ///
-    /// Refusal 11 needs no test. A node's own range was checked on the visit, so its subtree is
-    /// the rows from `row` to `row + 2 * segments - 2`; the root's are all 2n - 1, and a child's
-    /// lie inside its parent's as long as the split is strictly between first and last.
+    /// Their rows are in the table: row r with k segments has r + 2k <= 2n, so r is below 2n - 1.
+    /// It holds of the root, and both halves keep it, as each has at least one segment.
     fn halves(self, split: usize) -> [Node; 2] {
         [
             Node {
@@ -436,6 +435,7 @@ fn walk_agree(a: Tree, b: Tree, d: i32, tally: &mut Tally) -> Result<Answer, Sto
 mod tests {
     use super::*;
     use crate::tree::{build, rows};
+    use std::collections::BTreeSet;
 
     const L: [i32; 6] = [0, 0, 4, 3, 8, 0];
     const SQUARE: [i32; 10] = [0, 0, 4, 0, 4, 4, 0, 4, 0, 0];
@@ -667,7 +667,7 @@ mod tests {
     }
 
     #[test]
-    fn agree_takes_at_most_the_visits_that_the_paper_allows() {
+    fn agree_takes_at_most_the_visits_that_are_enough() {
         let zigzag: Vec<i32> = (0..20).flat_map(|i| [i, i % 2 * 7]).collect();
         let (n, m) = (19, 2);
         let outcome = agreeing(&zigzag, &L, 32_767, MOST);
@@ -760,6 +760,72 @@ mod tests {
             let expected = refused(10, Some(Name::A), row as u64, visits);
             assert_eq!(outcome, expected, "{place} {value}");
         }
+    }
+
+    #[test]
+    fn wrong_split_or_range_is_refused_10_at_its_own_row() {
+        // (row of L, number in the row, bad value): 1 is its last, 2 its split.
+        let bad = [(0, 2, 2), (0, 2, 2_000_000_000), (0, 1, 3), (2, 2, 1)];
+        for (row, number, value) in bad {
+            let mut a = built(Name::A, &L);
+            a.table[ROW * row + number] = value;
+            let outcome = near(a.tree(), at(4, 0), 2, MOST);
+            let expected = refused(10, Some(Name::A), row as u64, row as u32 + 1);
+            assert_eq!(outcome, expected, "{row} {number} {value}");
+        }
+        let mut one_higher = built(Name::B, &[0, 1, 4, 4, 8, 1]);
+        one_higher.table[2] = 2;
+        let outcome = meet(built(Name::A, &L).tree(), one_higher.tree(), MOST);
+        assert_eq!(outcome, refused(10, Some(Name::B), 0, 1));
+    }
+
+    /// Each place of the table with each of: the least number, the greatest, -1 to the count of
+    /// points.
+    fn damages(line: &Built) -> Vec<(usize, i32)> {
+        let count = line.points.len() as i32 / 2;
+        let values: Vec<i32> = (-1..=count).chain([i32::MIN, i32::MAX]).collect();
+        (0..line.table.len())
+            .flat_map(|place| values.iter().map(move |&value| (place, value)))
+            .collect()
+    }
+
+    /// The rows that are refused when any two numbers of the table are damaged.
+    fn rows_refused(line: &Built, ask: impl Fn(Tree) -> Outcome) -> BTreeSet<u64> {
+        let damages = damages(line);
+        let mut refused = BTreeSet::new();
+        for &(place, value) in &damages {
+            for &(other_place, other_value) in &damages {
+                let mut table = line.table.clone();
+                table[place] = value;
+                table[other_place] = other_value;
+                let damaged = Tree {
+                    table: &table,
+                    ..line.tree()
+                };
+                if let Answer::Refused(refusal) = ask(damaged).answer {
+                    assert_eq!((refusal.number, refusal.line), (10, Some(line.name)));
+                    refused.insert(refusal.place);
+                }
+            }
+        }
+        refused
+    }
+
+    #[test]
+    fn rows_that_are_read_are_those_below_2n_minus_1_whatever_two_numbers_are_damaged() {
+        // No lent table has a number past its 2n - 1 rows: to read there would be a panic.
+        let every_row: BTreeSet<u64> = (0..5).collect();
+        let k = built(Name::A, &[0, 0, 2, 1, 4, 3, 8, 0]);
+        let of_near = rows_refused(&k, |a| near(a, at(4, 0), 2, 99));
+        assert_eq!(of_near, every_row);
+        let one_higher = built(Name::B, &[0, 1, 2, 2, 4, 4, 8, 1]);
+        let of_a = rows_refused(&k, |a| meet(a, one_higher.tree(), 99));
+        assert_eq!(of_a, every_row);
+        let of_b = rows_refused(&one_higher, |b| meet(k.tree(), b, 99));
+        assert_eq!(of_b, every_row);
+        let ring = built(Name::A, &[0, 0, 4, 0, 0, 4, 0, 0]);
+        let of_side = rows_refused(&ring, |a| side(a, at(1, 1), 99));
+        assert_eq!(of_side, every_row);
     }
 
     #[test]

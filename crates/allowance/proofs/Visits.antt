@@ -1,7 +1,7 @@
 -- The visits of NEAR, IN and MEET halve: a good row's split stands strictly between first and last, so the halves of a
 -- node share its segments, and the halves of a pair its pairs of segments.
 use mathlib.Core.Path.{_≡_, sym, _∙_, ap}
-use mathlib.Core.Bool.{Bool, not, cond, _&&_, _||_}
+use mathlib.Core.Bool.{Bool, not, cond, _&&_}
 use mathlib.Core.List.{List}
 use Prim.Native.Nat.{ℕ, suc, _+_, _*_, _≤_, _<_}
 use native.Mathlib.Nat.{add-mul, mul-add, mul-pos, le-of-eq}
@@ -14,12 +14,11 @@ use Rattle.rules.specs.declared.Line.the-variants.{LineA, LineB}
 use Rattle.rules.specs.declared.Node.{Node}
 use Rattle.rules.specs.declared.Pair.{Pair}
 use Rattle.rules.specs.declared.Point.{Point}
-use Rattle.rules.specs.Sheet.{segmentsOf}
-use Rattle.rules.specs.Tree.{rowAt, rowCount}
+use Rattle.rules.specs.Tree.{rowAt}
 use Rattle.rules.specs.Plain.{within, onSegment, crosses}
 use Rattle.rules.specs.Rows.{good}
 use Rattle.rules.specs.Walk.{Visit, halve}
-use Rattle.rules.specs.Questions.{leftOf, rightOf, leaf, size, splitIn, readRow, openNode, startOf, endOf, headingOf}
+use Rattle.rules.specs.Questions.{leftOf, rightOf, leaf, size, splitIn, readRow, startOf, endOf, headingOf}
 use Rattle.rules.specs.Questions.{farFrom, nearVisit, meetVisit, clearOf, count, inVisit}
 use Rattle.visits.specs.Nodes.{Inner}
 use Rattle.visits.proofs.Nodes.{good-read, larger-opens, other-opens}
@@ -37,13 +36,6 @@ module _ {S N : Type 0} {Fine : ℕ → N → Type 0} {parts : N → ℕ} {f : �
       → (T (good ps (rowAt t (m .row)) (m .first) (m .last)) → Shares Fine parts f n x)
       → Shares Fine parts f n (readRow l ps t m (λ r. x))
   shares-row l ps t m h = shares-cond (good ps (rowAt t (m .row)) (m .first) (m .last)) h (λ _. refuses)
-
-  -- a child's row that is none is refused
-  shares-open : {x : Visit S N} (l : Line) (ps : List ℤ) (m : Node) (s : ℕ) → Shares Fine parts f n x
-      → Shares Fine parts f n (openNode l ps m s (λ a b. x))
-  shares-open l ps m s h =
-      let rows = rowCount (segmentsOf ps) in
-      shares-cond (leb rows (leftOf m s .row) || leb rows (rightOf m s .row)) (λ _. refuses) (λ _. h)
 
 -- a node of at least one segment, and of at most this many
 abbrev Spans : ℕ → Node → Type 0
@@ -70,7 +62,7 @@ node-halves l ps t dismissed exact h = record {
       shares-cond (leaf n) (λ _. shares-cond (exact n) (λ _. finishes) (λ _. passes)) λ e.
       let s = splitIn (rowAt t (n .row)) in
       let b : Halves n s = good-between ps t n g (nleb→lt _ _ e) in
-      shares-open l ps n s (halves (leftOf n s) (rightOf n s) (omega arith) (omega arith) (omega arith));
+      halves (leftOf n s) (rightOf n s) (omega arith) (omega arith) (omega arith);
 }
 
 pub near-halves : (l : Line) (ps t : List ℤ) (z : Point) (D : ℤ) → Halving Spans size (nearVisit l ps t z D)
@@ -126,8 +118,8 @@ meet-halves ps t qs t′ = record {
       shares-cond (leb (size (n .b)) (size (n .a)))
       (λ k.
       let more = larger-opens (n .a) (n .b) e (leb→le (size (n .b)) (size (n .a)) k) in
-      shares-open LineA ps (n .a) _ (a-halves f n _ h (good-between ps t (n .a) g more)))
+      a-halves f n _ h (good-between ps t (n .a) g more))
       (λ k.
       let more = other-opens (n .a) (n .b) e (nleb→lt (size (n .b)) (size (n .a)) k) in
-      shares-open LineB qs (n .b) _ (b-halves f n _ h (good-between qs t′ (n .b) g′ more)));
+      b-halves f n _ h (good-between qs t′ (n .b) g′ more));
 }

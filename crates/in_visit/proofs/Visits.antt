@@ -13,7 +13,7 @@ use Rattle.rules.specs.Rows.{good}
 use Rattle.rules.specs.Walk.{refuse, finish, pass, halve}
 use Rattle.rules.specs.Questions.{leaf, splitIn, leftOf, rightOf, startOf, endOf, headingOf, clearOf, count, inVisit}
 use Rattle.row.specs.Parts.{frameGood, leafFits, splitFits}
-use Rattle.row.specs.Stands.{Stands, EndsOn}
+use Rattle.row.specs.Stands.{EndsOn}
 use Rattle.row.proofs.OneVisit.{row-refused, frame-refused, leaf-written, inner-written, split-between}
 use Rattle.in_visit.specs.Steps.{leafBy, innerBy, leafStep, innerStep, Visits}
 use Rattle.in_visit.specs.declared.Step.{Step}
@@ -61,13 +61,13 @@ module _ (ps t : List ℤ) (z : Point) (n : Node) where
           by true false false e = record { does = e; inside = tt }
           by false clear at e = record { does = e; inside = tt }
 
-      pub inner-visit : {s : Step} → Stands ps t n → leaf n ≡ false → s ≡ innerStep r (n .first) (n .last) a b z
+      pub inner-visit : {s : Step} → leaf n ≡ false → s ≡ innerStep r (n .first) (n .last) a b z
           → Visits ps t n z s
       unfolding inVisit
-      inner-visit h e is =
+      inner-visit e is =
           subst (Visits ps t n z) (sym (is ∙ (λ i. innerStep (row-is i) (n .first) (n .last) (from i) (to i) z)))
           (by (splitFits row (n .first) (n .last)) isClear refl
-          (inner-written LineA ps t n (count crossed) isClear isOn on row-is framed h e))
+          (inner-written LineA ps t n (count crossed) isClear isOn on row-is framed e))
         where
           by : (fits clear : Bool) → splitFits row (n .first) (n .last) ≡ fits
               → cond fits

@@ -12,7 +12,6 @@ use lib.Dec.{T, leb, leb→le, nleb→lt}
 use lib.IntN.{ℤ}
 use mir.Facts.{and-yes}
 use Rattle.integers.specs.Laws.{cond-ind}
-use Rattle.rules.specs.declared.Line.{Line}
 use Rattle.rules.specs.declared.Line.the-variants.{LineA, LineB}
 use Rattle.rules.specs.declared.Node.{Node}
 use Rattle.rules.specs.declared.Pair.{Pair}
@@ -24,7 +23,7 @@ use Rattle.rules.specs.declared.Word.the-variants.{YES, NO, UNDECIDED}
 use Rattle.rules.specs.Reply.{firstRefusal}
 use Rattle.rules.specs.Rows.{lengthChecks}
 use Rattle.rules.specs.Walk.{Visit, finish, pass, halve, fresh}
-use Rattle.rules.specs.Questions.{root, leaf, size, leftOf, rightOf, Nothing, openNode}
+use Rattle.rules.specs.Questions.{root, leaf, size, leftOf, rightOf, Nothing}
 use Rattle.rules.specs.Questions.{meetVisit, meetWalk, meetChecks, meetReply}
 use Rattle.rules.specs.Build.{sound}
 use Rattle.visits.specs.Tells.{Right}
@@ -35,7 +34,7 @@ use Rattle.visits.proofs.Told.{right-test}
 use Rattle.visits.proofs.Nodes.{larger-opens, other-opens}
 use Rattle.visits.proofs.Replies.{walk-truthful, reply-truthful, Sure, sure-or-refused}
 use Rattle.visits.proofs.Sound.{SoundTree, root-tree, row-good, row-holds, leaf-next, splitAt, low, high}
-use Rattle.visits.proofs.Sound.{left-tree, right-tree, opens}
+use Rattle.visits.proofs.Sound.{left-tree, right-tree}
 use Rattle.visits.proofs.Visits.{withA, withB, pairApart, pairShares}
 use Rattle.meet_truth.specs.Meeting.{LinesMeet}
 use Rattle.meet_truth.proofs.Dismissed.{apart-none}
@@ -74,18 +73,18 @@ module _ (ps t qs t′ : List ℤ) where
         (λ s. refl)
 
     -- the halves of a node of two segments or more, put in its place
-    right-halves : (l : Line) {rs u : List ℤ} {m : Node} (put : Node → Pair) (k : SoundTree rs u m)
+    right-halves : {rs u : List ℤ} {m : Node} (put : Node → Pair) (k : SoundTree rs u m)
         → ((h : Node) → SoundTree rs u h → SoundPair (put h))
         → ((s : ℕ) → m .first < s → s < m .last
         → someShared ps qs n ≡ someShared ps qs (put (leftOf m s)) || someShared ps qs (put (rightOf m s)))
-        → m .first + 1 < m .last → RightAt f n (openNode l rs m (splitAt k) (λ x y. halve (put x) (put y)))
-    right-halves l put k sound-put halves more =
-        subst (RightAt f n) (sym (opens k more l (λ x y. halve (put x) (put y)))) (
-          sound-put _ (left-tree k more),
-          sound-put _ (right-tree k more),
-          halves (splitAt k) (low k more) (high k more),
-          λ s. refl,
-        )
+        → m .first + 1 < m .last
+        → RightAt f n (halve (put (leftOf m (splitAt k))) (put (rightOf m (splitAt k))))
+    right-halves put k sound-put halves more = (
+      sound-put _ (left-tree k more),
+      sound-put _ (right-tree k more),
+      halves (splitAt k) (low k more) (high k more),
+      λ s. refl,
+    )
 
     -- every visit is right: the node that splits has two segments or more
     right-pair : RightAt f n (meetVisit ps t qs t′ n)
@@ -95,9 +94,9 @@ module _ (ps t qs t′ : List ℤ) where
         (cond-ind (pairApart ps t qs t′ n) _ _ (RightAt f n) right-dismissed
         (λ _. cond-ind (leaf (n .a) && leaf (n .b)) _ _ (RightAt f n) right-leaves
         (λ h. cond-ind (leb (size (n .b)) (size (n .a))) _ _ (RightAt f n)
-        (λ w. right-halves LineA (withA n) (g .in-A) (λ m k. record { in-A = k; in-B = g .in-B })
+        (λ w. right-halves (withA n) (g .in-A) (λ m k. record { in-A = k; in-B = g .in-B })
         (shared-halves-A ps qs n) (larger-opens (n .a) (n .b) h (leb→le _ _ w)))
-        (λ w. right-halves LineB (withB n) (g .in-B) (λ m k. record { in-A = g .in-A; in-B = k })
+        (λ w. right-halves (withB n) (g .in-B) (λ m k. record { in-A = g .in-A; in-B = k })
         (shared-halves-B ps qs n) (other-opens (n .a) (n .b) h (nleb→lt (size (n .b)) (size (n .a)) w))))))
 
   -- what the walk tells of both lines: the runs of both roots are the whole lines

@@ -1,27 +1,24 @@
--- What the code does with two good rows is what the definition does: the node that splits does so at an inner point, so
--- its children's rows have room, and refusal 11 never comes. A bad row decides a visit without it.
+-- What the code does with two good rows is what the definition does, and the node that splits does so at an inner point.
+-- A bad row decides a visit without it.
 use mathlib.Core.Path.{_≡_, refl, sym, subst₂}
 use mathlib.Core.Bool.{Bool, true, false, not, cond, _&&_}
 use mathlib.Core.List.{List}
-use Prim.Native.Nat.{ℕ, _+_, _<_, _≤_}
+use Prim.Native.Nat.{ℕ, _≤_}
 use native.Mathlib.Omega.{arith}
 use lib.Dec.{T, leb, leb→le, nleb→lt}
 use lib.IntN.{ℤ}
 use Rattle.integers.specs.Order.{yes-T}
 use Rattle.rules.specs.declared.Line.the-variants.{LineA, LineB}
-use Rattle.rules.specs.declared.Line.{Line}
-use Rattle.rules.specs.declared.Node.{Node}
 use Rattle.rules.specs.declared.Pair.{Pair}
 use Rattle.rules.specs.declared.Row.{Row}
 use Rattle.rules.specs.Plain.{share}
 use Rattle.rules.specs.Tree.{rowAt}
 use Rattle.rules.specs.Walk.{Visit, refuse, finish, pass}
-use Rattle.rules.specs.Questions.{Nothing, leaf, size, leftOf, rightOf, splitIn, openNode, startOf, endOf, meetVisit}
-use Rattle.visits.specs.Nodes.{Inner, RowGood}
+use Rattle.rules.specs.Questions.{Nothing, leaf, size, splitIn, startOf, endOf, meetVisit}
+use Rattle.visits.specs.Nodes.{RowGood}
 use Rattle.visits.proofs.Nodes.{larger-opens, other-opens}
-use Rattle.row.proofs.Places.{opens}
 use Rattle.meet_visit.specs.declared.Step.{Step}
-use Rattle.meet_visit.specs.Sides.{sideA, sideB, halvesOn}
+use Rattle.meet_visit.specs.declared.Step.the-variants.{HalveA, HalveB}
 use Rattle.meet_visit.specs.Pairs.{goodAt, NodeStands, Read}
 use Rattle.meet_visit.specs.Steps.{stepVisit, SplitsInside, opened}
 use Rattle.meet_visit.specs.Steps.{FINISHES, PASSES, HALVES, nodesApart, compared}
@@ -35,8 +32,7 @@ sharing ps qs n = share (startOf ps (n .a)) (endOf ps (n .a)) (startOf qs (n .b)
 abbrev pub keptVisit : List ℤ → Row → List ℤ → Row → Pair → Visit Nothing Pair
 keptVisit ps r qs q n =
     cond (leaf (n .a) && leaf (n .b)) (cond (sharing ps qs n) finish (pass (λ k. k)))
-    (cond (leb (size (n .b)) (size (n .a))) (openNode LineA ps (n .a) (splitIn r) (halvesOn sideA n))
-    (openNode LineB qs (n .b) (splitIn q) (halvesOn sideB n)))
+    (cond (leb (size (n .b)) (size (n .a))) (stepVisit n (HalveA (splitIn r))) (stepVisit n (HalveB (splitIn q))))
 
 abbrev pub comparedVisit : List ℤ → Row → List ℤ → Row → Pair → Visit Nothing Pair
 comparedVisit ps r qs q n = cond (nodesApart ps r qs q n) (pass (λ k. k)) (keptVisit ps r qs q n)
@@ -78,13 +74,6 @@ does-pass = record {
   no-leaves = λ e. absurd (omega arith);
 }
 
--- a node that is no leaf splits at an inner point, and its halves have room in the table
-opens-inside : {ps : List ℤ} {r : Row} {m : Node} → Read ps r m → m .first + 1 < m .last
-    → (l : Line) (go : Node → Node → Visit Nothing Pair)
-    → let s = splitIn r in
-    (go (leftOf m s) (rightOf m s) ≡ openNode l ps m s go) × Inner (m .first) s (m .last)
-opens-inside d h l go = let i = split-inside d h in (sym (opens (d .stands) i l go), i)
-
 module _ {ps qs : List ℤ} {r q : Row} (n : Pair) (a : Read ps r (n .a)) (b : Read qs q (n .b)) where
   does-halve : {v : Visit Nothing Pair} → T (not (leaf (n .a) && leaf (n .b))) → Halves n (opened r q n) v
       → Does n (opened r q n) HALVES v
@@ -101,8 +90,8 @@ module _ {ps qs : List ℤ} {r q : Row} (n : Pair) (a : Read ps r (n .a)) (b : R
       (λ _. by-test (leaf (n .a) && leaf (n .b))
       (λ _. by-test (sharing ps qs n) (λ _. does-finish) (λ _. does-pass))
       (λ u. does-halve u (by-side n (leb (size (n .b)) (size (n .a))) _ _ _ _
-      (λ k. opens-inside a (larger-opens (n .a) (n .b) u (leb→le _ _ k)) LineA (halvesOn sideA n))
-      (λ k. opens-inside b (other-opens (n .a) (n .b) u (nleb→lt _ _ k)) LineB (halvesOn sideB n)))))
+      (λ k. (refl, split-inside a (larger-opens (n .a) (n .b) u (leb→le _ _ k))))
+      (λ k. (refl, split-inside b (other-opens (n .a) (n .b) u (nleb→lt _ _ k)))))))
 
 -- ---------------- what a visit comes to, by which row is bad
 module _ (ps t qs t′ : List ℤ) (n : Pair) where

@@ -4,8 +4,7 @@ use Rattle.rules.specs.declared.Line.{Line}
 use Rattle.rules.specs.declared.Line.the-variants.{LineA, LineB}
 use Rattle.rules.specs.declared.Node.{Node}
 use Rattle.rules.specs.declared.Pair.{Pair}
-use Rattle.rules.specs.Walk.{Visit, halve}
-use Rattle.rules.specs.Questions.{Nothing, leftOf, rightOf}
+use Rattle.rules.specs.Questions.{leftOf, rightOf}
 use Rattle.visits.specs.Nodes.{Inner}
 
 pub data Side : Type 0 where
@@ -34,9 +33,6 @@ leftOn k n split = withNode k n (leftOf (nodeOn k n) split)
 
 abbrev pub rightOn : Side → Pair → ℕ → Pair
 rightOn k n split = withNode k n (rightOf (nodeOn k n) split)
-
-abbrev pub halvesOn : Side → Pair → Node → Node → Visit Nothing Pair
-halvesOn k n left right = halve (withNode k n left) (withNode k n right)
 
 -- a node is halved at an inner point
 abbrev pub SplitsOn : Side → Pair → ℕ → Type 0

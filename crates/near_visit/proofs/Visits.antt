@@ -19,7 +19,7 @@ use Rattle.rules.specs.Questions.{farFrom, nearVisit}
 use Rattle.visits.specs.Nodes.{HoldsStart}
 use Rattle.visits.proofs.Nodes.{strip-read}
 use Rattle.row.specs.Parts.{frameGood, leafFits, splitFits}
-use Rattle.row.specs.Stands.{Stands, EndsOn}
+use Rattle.row.specs.Stands.{EndsOn}
 use Rattle.row.proofs.OneVisit.{row-refused, frame-refused, leaf-written, inner-written}
 use Rattle.near_visit.specs.Steps.{stepVisit, leafBy, innerBy, leafStep, innerStep, SplitsInside, Visits}
 use Rattle.near_visit.specs.declared.Step.{Step}
@@ -77,15 +77,15 @@ module _ (ps t : List ℤ) (z : Point) (n : Node) where
           by l true false false = refl
           by l false far near = refl
 
-      pub inner-visit : {reach : ℤ} {s : Step} → Stands ps t n → leaf n ≡ false
+      pub inner-visit : {reach : ℤ} {s : Step} → leaf n ≡ false
           → ((D : ℤ) → reach ≡ D *ℤ D → s ≡ innerStep r (n .first) (n .last) a b z D)
           → SplitsInside (n .first) (n .last) s → Visits ps t n z reach s
       unfolding nearVisit
-      inner-visit h e is inside = record {
+      inner-visit e is inside = record {
         does = λ l D q. ap (stepVisit l n)
             (is D q ∙ (λ i. innerStep (row-is i) (n .first) (n .last) (from i) (to i) z D))
             ∙ by l (splitFits row (n .first) (n .last)) (isFar D)
-            ∙ inner-written l ps t n same (isFar D) (isWithin D) on row-is framed h e;
+            ∙ inner-written l ps t n same (isFar D) (isWithin D) on row-is framed e;
         inside = inside;
       }
         where

@@ -3,7 +3,7 @@
 -- a line is a parameter, so that A's points and B's are one case.
 use mathlib.Core.Path.{_≡_, refl, sym, _∙_, ap, subst}
 use mathlib.Core.Bool.{Bool, true, false, cond}
-use mathlib.Core.List.{List, [], _∷_}
+use mathlib.Core.List.{List}
 use mathlib.Core.Logic.{_⊎_, inl, inr, ⊎-elim}
 use mathlib.Core.Option.{none}
 use Prim.Native.Nat.{ℕ, zero, suc, _+_, _<_}
@@ -17,15 +17,15 @@ use Rattle.rules.specs.declared.Tally.{Tally}
 use Rattle.rules.specs.Sheet.{point, pointsOf, segmentsOf, onSheet}
 use Rattle.rules.specs.declared.Reply.{Reply}
 use Rattle.rules.specs.Reply.{firstRefusal, orRefused, refuses}
-use Rattle.rules.specs.Rows.{distanceCheck}
 use Rattle.rules.specs.Walk.{Walked, ended, over, spent, refused, fresh}
 use Rattle.rules.specs.Questions.{root, Nothing, nearWalk, Asked, allNear, notNear, unasked, faulted, onNear, askAll}
 use Rattle.rules.specs.Questions.{onAllNear, agreeWalk, agreeChecks, agreed}
+use Rattle.visits.specs.Reached.{at-root}
 use Rattle.visits.proofs.Tests.{never}
-use Rattle.refusals.specs.Named.{NearBad, OnUpTo, FirstOff, offRefusal, Reached, ComesTo, OtherBad, AgreeBad}
+use Rattle.refusals.specs.Named.{NearBad, OnUpTo, FirstOff, offRefusal, AsksAt, ComesTo, OtherBad, AgreeBad}
 use Rattle.refusals.specs.Named.{PointOff}
 use Rattle.refusals.proofs.Sees.{first-bad, bad-refused}
-use Rattle.refusals.proofs.Questions.{In, near-visits, both-stand, bad-late}
+use Rattle.refusals.proofs.Questions.{near-visits, bad-late}
 
 -- ---------------- the points of one line
 
@@ -137,15 +137,15 @@ module _ (l : Line) (ps : List ℤ) (m : Line) (qs t : List ℤ) (D : ℤ) where
 
   -- ---------------- a walk that is refused, and the bad row of the other line
 
-  module _ (fine : In qs (root qs)) (i : ℕ) (y : Tally) where
+  module _ (i : ℕ) (y : Tally) where
     refused-bad : (r : Refusal) → nearWalk m qs t (point ps i) D y ≡ refused r
         → NearBad m qs t (point ps i) D y (refuses r) × (r .number ≡ 10)
-    refused-bad = first-bad (near-visits m qs t (point ps i) D) (segmentsOf qs) (root qs) tt y fine
+    refused-bad = first-bad (near-visits m qs t (point ps i) D) (segmentsOf qs) (root qs) tt y at-root
 
     bad-cause : (q : Reply) → (onSheet (point ps i) ≡ true) × NearBad m qs t (point ps i) D y q
         → (r : Refusal) × Cause i y r × (r .number ≡ 10)
     bad-cause q h =
-        let w = bad-refused (near-visits m qs t (point ps i) D) (segmentsOf qs) (root qs) tt y fine q (h .1) in
+        let w = bad-refused (near-visits m qs t (point ps i) D) (segmentsOf qs) (root qs) tt y at-root q (h .1) in
         (w .0, inr (h .0, w .1), refused-bad (w .0) (w .1) .1)
 
 -- ---------------- both lines
@@ -171,7 +171,7 @@ module _ (ps t qs t′ : List ℤ) (D : ℤ) (a : ℕ) where
   ComesAt P = ComesTo ps t qs t′ D a P
 
   pub comes-map : {P Q : Line → ℕ → Tally → Type 0} (c : ComesAt P) → Q (c .line) (c .index) (c .tally) → ComesAt Q
-  comes-map c h = record { line = c .line; index = c .index; tally = c .tally; reached = c .reached; has = h }
+  comes-map c h = record { line = c .line; index = c .index; tally = c .tally; comes = c .comes; has = h }
 
   -- an asking is refused exactly where it comes to a point that is the cause
   agree-fault : (r : Refusal) → agreeWalk ps t qs t′ D (fresh a) ≡ faulted r → ComesAt (AgreeCause r)
@@ -180,16 +180,16 @@ module _ (ps t qs t′ : List ℤ) (D : ℤ) (a : ℕ) where
       ⊎-elim
       (λ q.
       ⊎-elim (λ n. never (cc))
-      (λ f. record { line = LineA; index = f .0; tally = f .1; reached = (f .2, f .3); has = f .4 })
+      (λ f. record { line = LineA; index = f .0; tally = f .1; comes = (f .2, f .3); has = f .4 })
       (comes-fault LineA ps LineB qs t′ D (allNear (fresh a)) (pointsOf ps) r q))
-      (λ f. record { line = LineB; index = f .0; tally = f .1; reached = (f .2, f .3); has = f .4 })
+      (λ f. record { line = LineB; index = f .0; tally = f .1; comes = (f .2, f .3); has = f .4 })
       (comes-fault LineB qs LineA ps t D asked-A (pointsOf qs) r e)
 
   pub fault-agree : {r : Refusal} → ComesAt (AgreeCause r) → agreeWalk ps t qs t′ D (fresh a) ≡ faulted r
   unfolding agreeWalk
-  fault-agree {r} f = go (f .line) (f .index) (f .tally) (f .reached) (f .has)
+  fault-agree {r} f = go (f .line) (f .index) (f .tally) (f .comes) (f .has)
     where
-      go : (l : Line) (i : ℕ) (y : Tally) → Reached ps t qs t′ D a l i y → AgreeCause r l i y
+      go : (l : Line) (i : ℕ) (y : Tally) → AsksAt ps t qs t′ D a l i y → AgreeCause r l i y
           → onAllNear asked-A (askAll LineB qs LineA ps t D 0 (pointsOf qs)) ≡ faulted r
       go NoLine i y h c = absurd h
       go LineA i y h c =
@@ -211,45 +211,42 @@ module _ (ps t qs t′ : List ℤ) (D : ℤ) (a : ℕ) where
   other-late r LineA i y h = bad-late (agreeChecks ps t qs t′ D) r _ y (h .1)
   other-late r LineB i y h = bad-late (agreeChecks ps t qs t′ D) r _ y (h .1)
 
-  module _ (e : firstRefusal (agreeChecks ps t qs t′ D) ≡ none) where
-    stand : In ps (root ps) × In qs (root qs)
-    stand = both-stand ps t qs t′ (distanceCheck D ∷ []) e
+  -- a bad row of the other line is a cause
+  pub other-cause : (q : Reply) (l : Line) (i : ℕ) (y : Tally) → OtherBad ps t qs t′ D q l i y
+      → (r : Refusal) × AgreeCause r l i y × (r .number ≡ 10)
+  other-cause q NoLine i y h = absurd h
+  other-cause q LineA i y h = bad-cause LineA ps LineB qs t′ D i y q h
+  other-cause q LineB i y h = bad-cause LineB qs LineA ps t D i y q h
 
-    -- a bad row of the other line is a cause
-    pub other-cause : (q : Reply) (l : Line) (i : ℕ) (y : Tally) → OtherBad ps t qs t′ D q l i y
-        → (r : Refusal) × AgreeCause r l i y × (r .number ≡ 10)
-    other-cause q NoLine i y h = absurd h
-    other-cause q LineA i y h = bad-cause LineA ps LineB qs t′ D (stand .1) i y q h
-    other-cause q LineB i y h = bad-cause LineB qs LineA ps t D (stand .0) i y q h
+  -- a cause is a first point off the sheet, with 8, or a bad row of the other line, with 10
+  cause-read : (r : Refusal) (l : Line) (i : ℕ) (y : Tally) → AsksAt ps t qs t′ D a l i y → AgreeCause r l i y
+      → (FirstOff ps qs l i × (r .number ≡ 8)) ⊎ (OtherBad ps t qs t′ D (refuses r) l i y × (r .number ≡ 10))
+  cause-read r NoLine i y h c = absurd c
+  cause-read r LineA i y h (inl c) =
+      let some = comes-on LineA ps LineB qs t′ D (allNear (fresh a)) i y (h .1) in
+      inl ((some, c .0), ap (λ (x : Refusal). x .number) (c .1))
+  cause-read r LineB i y h (inl c) =
+      let n = comes-read LineB qs LineA ps t D asked-A i y (h .1) in
+      let all = comes-on LineA ps LineB qs t′ D (allNear (fresh a)) (pointsOf ps) (n .0) (n .1) in
+      inl ((all, comes-on LineB qs LineA ps t D asked-A i y (h .1), c .0), ap (λ (x : Refusal). x .number) (c .1))
+  cause-read r LineA i y h (inr c) =
+      let b = refused-bad LineA ps LineB qs t′ D i y r (c .1) in inr ((c .0, b .0), b .1)
+  cause-read r LineB i y h (inr c) =
+      let b = refused-bad LineB qs LineA ps t D i y r (c .1) in inr ((c .0, b .0), b .1)
 
-    -- a cause is a first point off the sheet, with 8, or a bad row of the other line, with 10
-    cause-read : (r : Refusal) (l : Line) (i : ℕ) (y : Tally) → Reached ps t qs t′ D a l i y → AgreeCause r l i y
-        → (FirstOff ps qs l i × (r .number ≡ 8)) ⊎ (OtherBad ps t qs t′ D (refuses r) l i y × (r .number ≡ 10))
-    cause-read r NoLine i y h c = absurd c
-    cause-read r LineA i y h (inl c) =
-        let some = comes-on LineA ps LineB qs t′ D (allNear (fresh a)) i y (h .1) in
-        inl ((some, c .0), ap (λ (x : Refusal). x .number) (c .1))
-    cause-read r LineB i y h (inl c) =
-        let n = comes-read LineB qs LineA ps t D asked-A i y (h .1) in
-        let all = comes-on LineA ps LineB qs t′ D (allNear (fresh a)) (pointsOf ps) (n .0) (n .1) in
-        inl ((all, comes-on LineB qs LineA ps t D asked-A i y (h .1), c .0), ap (λ (x : Refusal). x .number) (c .1))
-    cause-read r LineA i y h (inr c) =
-        let b = refused-bad LineA ps LineB qs t′ D (stand .1) i y r (c .1) in inr ((c .0, b .0), b .1)
-    cause-read r LineB i y h (inr c) =
-        let b = refused-bad LineB qs LineA ps t D (stand .0) i y r (c .1) in inr ((c .0, b .0), b .1)
+  -- after the checks a number is 8, at a point off the sheet, or 10, at a bad row
+  abbrev Late : ℕ → Reply → Type 0
+  Late k r = (PointOff ps t qs t′ D a × (k ≡ 8)) ⊎ (AgreeBad ps t qs t′ D a r × (k ≡ 10))
 
-    -- after the checks a number is 8, at a point off the sheet, or 10, at a bad row
-    abbrev Late : ℕ → Reply → Type 0
-    Late k r = (PointOff ps t qs t′ D a × (k ≡ 8)) ⊎ (AgreeBad ps t qs t′ D a r × (k ≡ 10))
-
-    pub agree-late : (k : ℕ) → 0 < k → agreed a (agreeWalk ps t qs t′ D (fresh a)) .number ≡ k
-        → Late k (agreed a (agreeWalk ps t qs t′ D (fresh a)))
-    agree-late k p h =
-        ⊎-elim (λ z. absurd (omega arith)) (λ w.
-        let f = agree-fault (w .0) (w .1) in
-        let n : k ≡ w .0 .number = sym h ∙ ap (λ (x : Asked). agreed a x .number) (w .1) in
-        subst (λ (x : Asked). Late k (agreed a x)) (sym (w .1))
-        (⊎-elim (λ o. inl (record { unrefused = e; at = comes-map f (o .0) }, n ∙ o .1))
-        (λ b. inr (comes-map f (b .0), n ∙ b .1))
-        (cause-read (w .0) (f .line) (f .index) (f .tally) (f .reached) (f .has))))
-        (agreed-else a (agreeWalk ps t qs t′ D (fresh a)))
+  pub agree-late : firstRefusal (agreeChecks ps t qs t′ D) ≡ none → (k : ℕ) → 0 < k
+      → agreed a (agreeWalk ps t qs t′ D (fresh a)) .number ≡ k
+      → Late k (agreed a (agreeWalk ps t qs t′ D (fresh a)))
+  agree-late e k p h =
+      ⊎-elim (λ z. absurd (omega arith)) (λ w.
+      let f = agree-fault (w .0) (w .1) in
+      let n : k ≡ w .0 .number = sym h ∙ ap (λ (x : Asked). agreed a x .number) (w .1) in
+      subst (λ (x : Asked). Late k (agreed a x)) (sym (w .1))
+      (⊎-elim (λ o. inl (record { unrefused = e; at = comes-map f (o .0) }, n ∙ o .1))
+      (λ b. inr (comes-map f (b .0), n ∙ b .1))
+      (cause-read (w .0) (f .line) (f .index) (f .tally) (f .comes) (f .has))))
+      (agreed-else a (agreeWalk ps t qs t′ D (fresh a)))

@@ -46,7 +46,7 @@ agree-10-exactly ps t qs t′ D a = (
       ⊎-elim (λ o. absurd (omega (arith, o .1))) (λ b. b .0) (agree-late ps t qs t′ D a e 10 (omega arith) h),
   λ h.
       let e = other-late ps t qs t′ D a _ (h .line) (h .index) (h .tally) (h .has) in
-      let c = other-cause ps t qs t′ D a e _ (h .line) (h .index) (h .tally) (h .has) in
+      let c = other-cause ps t qs t′ D a _ (h .line) (h .index) (h .tally) (h .has) in
       ap (λ (o : Option Refusal). orRefused o (agreed a (agreeWalk ps t qs t′ D (fresh a))) .number) e
       ∙ ap (λ (w : Asked). agreed a w .number) (fault-agree ps t qs t′ D a (comes-map ps t qs t′ D a h (c .1)))
       ∙ c .2,

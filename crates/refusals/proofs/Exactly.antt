@@ -1,9 +1,9 @@
--- Each question's refusals before its walk, exactly; and AGREE's 8, exactly.
+-- Each question's refusals before its walk, exactly; AGREE's 8, exactly; and that no question has a number above 10.
 use mathlib.Core.Path.{_≡_, ap, _∙_}
 use mathlib.Core.List.{List}
 use mathlib.Core.Logic.{_↔_, _≢_, ⊎-elim}
 use mathlib.Core.Option.{Option}
-use Prim.Native.Nat.{ℕ, _<_}
+use Prim.Native.Nat.{ℕ, _≤_, _<_}
 use native.Mathlib.Omega.{arith}
 use lib.IntN.{ℤ}
 use Rattle.rules.specs.declared.Point.{Point}
@@ -15,8 +15,8 @@ use Rattle.rules.specs.Questions.{nearChecks, nearReply, meetChecks, meetReply,
 use Rattle.rules.specs.Questions.{agreeWalk, agreed, agreeReply}
 use Rattle.refusals.specs.Reason.{Reason}
 use Rattle.refusals.specs.Named.{offRefusal, PointOff}
-use Rattle.refusals.proofs.First.{reason-refuses, number-exactly, after-read}
-use Rattle.refusals.proofs.Questions.{near-question, in-question, meet-question, early-exactly}
+use Rattle.refusals.proofs.First.{reason-refuses, number-exactly, after-read, number-last}
+use Rattle.refusals.proofs.Questions.{near-question, in-question, meet-question, early-exactly, ten-last}
 use Rattle.refusals.proofs.Asking.{comes-map, fault-agree, off-cause, agree-late}
 
 -- ---------------- NEAR
@@ -33,6 +33,11 @@ module _ (ps t : List ℤ) (z : Point) (D : ℤ) (a : ℕ) where
   unfolding nearReply
   near-refuses = reason-refuses (nearChecks ps t z D) _
 
+  -- its last number is 10
+  pub near-to-10 : nearReply ps t z D a .number ≤ 10
+  unfolding nearReply
+  near-to-10 = ten-last (near-question ps t z D) a
+
 -- ---------------- MEET
 
 module _ (ps t qs t′ : List ℤ) (a : ℕ) where
@@ -45,6 +50,10 @@ module _ (ps t qs t′ : List ℤ) (a : ℕ) where
   unfolding meetReply
   meet-refuses = reason-refuses (meetChecks ps t qs t′) _
 
+  pub meet-to-10 : meetReply ps t qs t′ a .number ≤ 10
+  unfolding meetReply
+  meet-to-10 = ten-last (meet-question ps t qs t′) a
+
 -- ---------------- IN
 
 module _ (ps t : List ℤ) (z : Point) (a : ℕ) where
@@ -56,6 +65,10 @@ module _ (ps t : List ℤ) (z : Point) (a : ℕ) where
   pub in-refuses : (f : Refusal) → Reason (inChecks ps t z) f → inReply ps t z a ≡ refuses f
   unfolding inReply
   in-refuses = reason-refuses (inChecks ps t z) _
+
+  pub in-to-10 : inReply ps t z a .number ≤ 10
+  unfolding inReply
+  in-to-10 = ten-last (in-question ps t z) a
 
 -- ---------------- AGREE
 
@@ -92,3 +105,9 @@ module _ (ps t qs t′ : List ℤ) (D : ℤ) (a : ℕ) where
         ⊎-elim (λ o. o .0) (λ b. absurd (omega (arith, b .1))) (agree-late ps t qs t′ D a e 8 (omega arith) h),
     λ h. ap (λ (q : Reply). q .number) (agree-off-refuses h),
   )
+
+  pub agree-to-10 : agreeReply ps t qs t′ D a .number ≤ 10
+  unfolding agreeReply
+  agree-to-10 =
+      number-last 10 (agreeChecks ps t qs t′ D) _ tt λ e k p h.
+      ⊎-elim (λ o. omega (arith, o .1)) (λ b. omega (arith, b .1)) (agree-late ps t qs t′ D a e k p h)

@@ -5,7 +5,7 @@ use mathlib.Core.Bool.{Bool, true, cond, _&&_}
 use mathlib.Core.List.{List, [], _∷_}
 use mathlib.Core.Logic.{_↔_, _≢_}
 use mathlib.Core.Option.{Option, none, some}
-use Prim.Native.Nat.{ℕ, _≤_, _<_}
+use Prim.Native.Nat.{ℕ, zero, suc, _≤_, _<_}
 use native.Mathlib.Omega.{arith}
 use lib.Dec.{T, ltb, ltb→lt}
 use lib.IntN.{ℤ}
@@ -80,6 +80,18 @@ first-below k (c ∷ cs) f h e =
     test-ind (λ b. cond b (some (early c)) (firstRefusal cs) ≡ some f → f .number < k) (c .holds)
     (λ _ q. let s : early c ≡ f = cc in subst (λ (g : Refusal). g .number < k) s (ltb→lt _ _ (p .0)))
     (λ _. first-below k cs f (p .1)) e
+
+-- a reply has no number above k where its checks' are below k and what comes after them has none above k
+pub number-last : (k : ℕ) (cs : List Check) (r : Reply) → T (below k cs)
+    → (firstRefusal cs ≡ none → (j : ℕ) → 0 < j → r .number ≡ j → j ≤ k) → orRefused (firstRefusal cs) r .number ≤ k
+number-last k cs r h late =
+    option-ind (λ o. orRefused o r .number ≤ k) (firstRefusal cs)
+    (λ e. zero-or-more (r .number) (λ p. late e (r .number) p refl))
+    (λ f e. let m = first-below k cs f h e in omega arith)
+  where
+    zero-or-more : (j : ℕ) → (0 < j → j ≤ k) → j ≤ k
+    zero-or-more zero f = omega arith
+    zero-or-more (suc j) f = f (omega arith)
 
 -- a reply with a number that is above those of its checks comes after them
 pub after-read : (j k : ℕ) (cs : List Check) (r : Reply) (P : Reply → Type 0) → T (below j cs) → j ≤ k

@@ -1,8 +1,8 @@
--- What one visit sees, at a node whose rows stand in the table: with and without the check of 11 it is the same visit,
--- a bad row is refused with 10, and else the rows are good and both halves stand too. So the walk is the same too, and
--- it is refused with 10 alone, exactly where a row that is visited is bad.
+-- What one visit sees, at a node that is reached: a bad row is refused with 10, and else the rows are good and both
+-- halves are reached too. So a walk visits reached nodes alone, and is refused with 10 alone, exactly where a row that
+-- is visited is bad.
 use mathlib.Core.Path.{_≡_, refl, sym, ap, subst, _∙_}
-use mathlib.Core.Bool.{Bool, true, false, not, cond}
+use mathlib.Core.Bool.{Bool, not, cond}
 use mathlib.Core.List.{List, [], _∷_, _++_, append-assoc}
 use Prim.Native.Nat.{ℕ, zero, suc, _+_}
 use native.Mathlib.Omega.{arith}
@@ -21,34 +21,25 @@ use Rattle.rules.specs.Walk.{onVisit, goOn, onStep, walk}
 use Rattle.refusals.specs.Trace.{nodesLeft, nodesHalved, nodesOfBoth, visitsOf, Each}
 use Rattle.refusals.specs.Named.{FirstBad}
 
-pub data Sees {S N : Type 0} (Fine : N → Type 0) (Good : Type 0) (Bad : Line → ℕ → Type 0)
-    : Visit S N → Visit S N → Type 0 where
-  bad : {line : Line} {place : ℕ} → Bad line place → Sees Fine Good Bad (refuse 10 line place) (refuse 10 line place)
-  finishes : Good → Sees Fine Good Bad finish finish
-  passes : {g : S → S} → Good → Sees Fine Good Bad (pass g) (pass g)
-  halves : {l r : N} → Good → Fine l → Fine r → Sees Fine Good Bad (halve l r) (halve l r)
+pub data Sees {S N : Type 0} (Come : N → Type 0) (Good : Type 0) (Bad : Line → ℕ → Type 0) : Visit S N → Type 0 where
+  bad : {line : Line} {place : ℕ} → Bad line place → Sees Come Good Bad (refuse 10 line place)
+  finishes : Good → Sees Come Good Bad finish
+  passes : {g : S → S} → Good → Sees Come Good Bad (pass g)
+  halves : {l r : N} → Good → Come l → Come r → Sees Come Good Bad (halve l r)
 
--- the visits of a walk, with and without the check of 11, and what they see of a fine node
+-- the visits of a walk, the nodes that it comes to, and what a visit of them sees
 pub record Visits (S N : Type 0) : Type 1 where
   pub visit : N → Visit S N
-  pub visit′ : N → Visit S N
-  pub Fine : N → Type 0
+  pub Come : N → Type 0
   pub Good : N → Type 0
   pub Bad : N → Line → ℕ → Type 0
-  pub sees : (n : N) → Fine n → Sees Fine (Good n) (Bad n) (visit n) (visit′ n)
+  pub sees : (n : N) → Come n → Sees Come (Good n) (Bad n) (visit n)
   pub not-both : (n : N) (l : Line) (i : ℕ) → Bad n l i → ¬ Good n
 
 -- a visit that goes by a test sees what both ways see
-pub sees-cond : {S N : Type 0} {Fine : N → Type 0} {Good : Type 0} {Bad : Line → ℕ → Type 0} {v v′ w w′ : Visit S N}
-    (b : Bool) → (T b → Sees Fine Good Bad v v′) → (T (not b) → Sees Fine Good Bad w w′)
-    → Sees Fine Good Bad (cond b v w) (cond b v′ w′)
-sees-cond true f g = f tt
-sees-cond false f g = g tt
-
-visit-same : {S : Type 0} (m : Next) (go go′ : Tally → Walked S) → ((y : Tally) → go y ≡ go′ y)
-    → onVisit m go ≡ onVisit m go′
-visit-same (Left y) go go′ h = h y
-visit-same Spent go go′ h = refl
+pub sees-cond : {S N : Type 0} {Come : N → Type 0} {Good : Type 0} {Bad : Line → ℕ → Type 0} {v w : Visit S N}
+    (b : Bool) → (T b → Sees Come Good Bad v) → (T (not b) → Sees Come Good Bad w) → Sees Come Good Bad (cond b v w)
+sees-cond {Come = Come} {Good = Good} {Bad = Bad} b f g = cond-ind b _ _ (Sees Come Good Bad) f g
 
 each-append : {N : Type 0} (P : N → Type 0) (ms ns : List N) → Each P ms → Each P ns → Each P (ms ++ ns)
 each-append P [] ns h k = k
@@ -59,24 +50,38 @@ each-last P [] n h = h .0
 each-last P (m ∷ ns) n h = each-last P ns n (h .1)
 
 module _ {S N : Type 0} (vs : Visits S N) where
-  open Visits vs using (visit, visit′, Fine, Good, Bad, sees, not-both)
+  open Visits vs using (visit, Come, Good, Bad, sees, not-both)
 
-  -- ---------------- both walks are the same
+  -- ---------------- a walk comes to each node that it visits
 
-  step-same : {G : Type 0} {B : Line → ℕ → Type 0} {v v′ : Visit S N} (s : S) (y : Tally) (go go′ : N → N → Walked S)
-      → Sees Fine G B v v′ → ((l r : N) → Fine l → Fine r → go l r ≡ go′ l r) → onStep v s y go ≡ onStep v′ s y go′
-  step-same s y go go′ (bad b) h = refl
-  step-same s y go go′ (finishes g) h = refl
-  step-same s y go go′ (passes g) h = refl
-  step-same s y go go′ (halves {l} {r} g p q) h = h l r p q
+  -- of the halves, where the visit halves
+  halves-come : {G : Type 0} {B : Line → ℕ → Type 0} {v : Visit S N} (go : N → N → List N) → Sees Come G B v
+      → ((l r : N) → Come l → Come r → Each Come (go l r)) → Each Come (nodesHalved v go)
+  halves-come go (bad b) h = tt
+  halves-come go (finishes g) h = tt
+  halves-come go (passes g) h = tt
+  halves-come go (halves {l} {r} g p q) h = h l r p q
 
-  pub walk-same : (f : ℕ) (n : N) (s : S) (y : Tally) → Fine n → walk visit f n s y ≡ walk visit′ f n s y
-  unfolding walk
-  walk-same zero n s y fine = refl
-  walk-same (suc f) n s y fine =
-      visit-same (next y) _ _ λ v.
-      step-same s v _ _ (sees n fine) λ l r p q.
-      λ i. goOn (walk-same f l s v p i) (λ s′ v′. walk-same f r s′ v′ q i)
+  both-come : (ns : List N) (w : Walked S) (go : S → Tally → List N) → Each Come ns
+      → ((s : S) (v : Tally) → Each Come (go s v)) → Each Come (nodesOfBoth ns w go)
+  both-come ns (ended y) go h k = h
+  both-come ns (over s y) go h k = each-append Come ns (go s y) h (k s y)
+  both-come ns spent go h k = h
+  both-come ns (refused r) go h k = h
+
+  left-come : (m : Next) (go : Tally → List N) → ((y : Tally) → Each Come (go y)) → Each Come (nodesLeft m go)
+  left-come (Left y) go h = h y
+  left-come Spent go h = tt
+
+  pub each-come : (f : ℕ) (n : N) (s : S) (y : Tally) → Come n → Each Come (visitsOf visit f n s y)
+  unfolding visitsOf
+  each-come zero n s y come = tt
+  each-come (suc f) n s y come =
+      left-come (next y) _ λ v. (
+        come,
+        halves-come _ (sees n come) λ l r p q.
+            both-come _ (walk visit f l s v) _ (each-come f l s v p) (λ s′ v′. each-come f r s′ v′ q),
+      )
 
   -- ---------------- what the nodes that are visited from tally y on tell of what the walk comes to
 
@@ -118,8 +123,8 @@ module _ {S N : Type 0} (vs : Visits S N) where
 
   -- one visit, that counts, and what comes of it
   step-traced : (n : N) (s : S) (y v : Tally) (go : N → N → Walked S) (nodes : N → N → List N)
-      → v .visits ≡ y .visits + 1 → ((l r : N) → Fine l → Fine r → Traced (nodes l r) v (go l r))
-      → {u u′ : Visit S N} → Sees Fine (Good n) (Bad n) u u′
+      → v .visits ≡ y .visits + 1 → ((l r : N) → Come l → Come r → Traced (nodes l r) v (go l r))
+      → {u : Visit S N} → Sees Come (Good n) (Bad n) u
       → Traced (n ∷ nodesHalved u nodes) y (onStep u s v go)
   step-traced n s y v go nodes c h (bad b) =
       (record { before = []; last = n; parts = refl; earlier = tt; bad = b; counted = c }, refl)
@@ -128,10 +133,10 @@ module _ {S N : Type 0} (vs : Visits S N) where
   step-traced n s y v go nodes c h (halves {l} {r} g p q) =
       went-on (n ∷ []) (nodes l r) y v ((g, tt), c) (go l r) (h l r p q)
 
-  walk-traced : (f : ℕ) (n : N) (s : S) (y : Tally) → Fine n → Traced (visitsOf visit f n s y) y (walk visit f n s y)
+  walk-traced : (f : ℕ) (n : N) (s : S) (y : Tally) → Come n → Traced (visitsOf visit f n s y) y (walk visit f n s y)
   unfolding walk visitsOf
-  walk-traced zero n s y fine = tt
-  walk-traced (suc f) n s y fine =
+  walk-traced zero n s y come = tt
+  walk-traced (suc f) n s y come =
       cond-ind (ltb (y .visits) (y .allowance)) (Left v) Spent
       (λ m.
       Traced (nodesLeft m (λ x. n ∷ nodesHalved (visit n) (nodes x))) y (onVisit m (λ x. onStep (visit n) s x (go x))))
@@ -140,7 +145,7 @@ module _ {S N : Type 0} (vs : Visits S N) where
       (λ l r p q.
       both-traced (visitsOf visit f l s v) v (walk visit f l s v) (walk visit f r) (visitsOf visit f r)
       (walk-traced f l s v p) (λ s′ v′. walk-traced f r s′ v′ q))
-      (sees n fine))
+      (sees n come))
       (λ _. tt)
     where
       v : Tally
@@ -152,16 +157,16 @@ module _ {S N : Type 0} (vs : Visits S N) where
       nodes : Tally → N → N → List N
       nodes x l r = nodesOfBoth (visitsOf visit f l s x) (walk visit f l s x) (visitsOf visit f r)
 
-  module _ (f : ℕ) (n : N) (s : S) (y : Tally) (fine : Fine n) where
+  module _ (f : ℕ) (n : N) (s : S) (y : Tally) (come : Come n) where
     -- a walk is refused with 10 alone, and names the first bad row
     pub first-bad : (r : Refusal) → walk visit f n s y ≡ refused r
         → FirstBad Good Bad (visitsOf visit f n s y) y (refuses r) × (r .number ≡ 10)
-    first-bad r e = subst (Traced (visitsOf visit f n s y) y) e (walk-traced f n s y fine)
+    first-bad r e = subst (Traced (visitsOf visit f n s y) y) e (walk-traced f n s y come)
 
     -- and where one is bad, the walk is refused
     pub bad-refused : (q : Reply) → FirstBad Good Bad (visitsOf visit f n s y) y q
         → (r : Refusal) × (walk visit f n s y ≡ refused r)
-    bad-refused q h = go (walk visit f n s y) refl (walk-traced f n s y fine)
+    bad-refused q h = go (walk visit f n s y) refl (walk-traced f n s y come)
       where
         none : Each Good (visitsOf visit f n s y) → ⊥
         none k =

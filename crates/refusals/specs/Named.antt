@@ -15,13 +15,13 @@ use Rattle.rules.specs.declared.Pair.{Pair}
 use Rattle.rules.specs.declared.Point.{Point}
 use Rattle.rules.specs.declared.Refusal.{Refusal}
 use Rattle.rules.specs.declared.Tally.{Tally}
-use Rattle.rules.specs.Sheet.{point, pointsOf, segmentsOf, onSheet}
+use Rattle.rules.specs.Sheet.{point, pointsOf, onSheet}
 use Rattle.rules.specs.declared.Reply.{Reply}
 use Rattle.rules.specs.Reply.{firstRefusal}
 use Rattle.rules.specs.Walk.{fresh}
-use Rattle.rules.specs.Questions.{root, nearVisit, meetVisit, inVisit, allNear, askAll, onAllNear, agreeChecks}
+use Rattle.rules.specs.Questions.{allNear, askAll, onAllNear, agreeChecks}
 use Rattle.visits.specs.Nodes.{RowGood}
-use Rattle.refusals.specs.Trace.{visitsOf, Each}
+use Rattle.refusals.specs.Trace.{nearVisited, meetVisited, inVisited, Each}
 
 -- ---- of the nodes that are visited from tally y on, the last one is bad, at the reply's line and place, and each
 -- earlier one is good; the visits are those made
@@ -48,17 +48,13 @@ PairBad ps t qs t′ n line place =
 
 -- of NEAR against line l from tally y on, of IN, and of MEET
 abbrev pub NearBad : Line → List ℤ → List ℤ → Point → ℤ → Tally → Reply → Type 0
-NearBad l ps t z D y r =
-    FirstBad (RowGood ps t) (RowBad l ps t) (visitsOf (nearVisit l ps t z D) (segmentsOf ps) (root ps) tt y) y r
+NearBad l ps t z D y r = FirstBad (RowGood ps t) (RowBad l ps t) (nearVisited l ps t z D y) y r
 
 abbrev pub InBad : List ℤ → List ℤ → Point → Tally → Reply → Type 0
-InBad ps t z y r =
-    FirstBad (RowGood ps t) (RowBad LineA ps t) (visitsOf (inVisit ps t z) (segmentsOf ps) (root ps) false y) y r
+InBad ps t z y r = FirstBad (RowGood ps t) (RowBad LineA ps t) (inVisited ps t z y) y r
 
 abbrev pub MeetBad : List ℤ → List ℤ → List ℤ → List ℤ → Tally → Reply → Type 0
-MeetBad ps t qs t′ y r =
-    FirstBad (PairGood ps t qs t′) (PairBad ps t qs t′)
-    (visitsOf (meetVisit ps t qs t′) (segmentsOf ps + segmentsOf qs) (record { a = root ps; b = root qs }) tt y) y r
+MeetBad ps t qs t′ y r = FirstBad (PairGood ps t qs t′) (PairBad ps t qs t′) (meetVisited ps t qs t′ y) y r
 
 -- ---- AGREE: the point that is asked
 -- the points 0 to i - 1 of a line are on the sheet
@@ -77,10 +73,10 @@ offRefusal l i y = record { number = 8; line = l; place = i; visits = y .visits 
 
 module _ (ps t qs t′ : List ℤ) (D : ℤ) where
   -- the asking comes to point i of a line with tally y: the line has that point, and each point asked before is near
-  abbrev pub Reached : ℕ → Line → ℕ → Tally → Type 0
-  Reached allowance NoLine i y = ⊥
-  Reached allowance LineA i y = (i < pointsOf ps) × (askAll LineA ps LineB qs t′ D 0 i (fresh allowance) ≡ allNear y)
-  Reached allowance LineB i y =
+  abbrev pub AsksAt : ℕ → Line → ℕ → Tally → Type 0
+  AsksAt allowance NoLine i y = ⊥
+  AsksAt allowance LineA i y = (i < pointsOf ps) × (askAll LineA ps LineB qs t′ D 0 i (fresh allowance) ≡ allNear y)
+  AsksAt allowance LineB i y =
       (i < pointsOf qs)
       × (onAllNear (askAll LineA ps LineB qs t′ D 0 (pointsOf ps) (fresh allowance))
       (λ v. askAll LineB qs LineA ps t D 0 i v) ≡ allNear y)
@@ -90,7 +86,7 @@ module _ (ps t qs t′ : List ℤ) (D : ℤ) where
     pub line : Line
     pub index : ℕ
     pub tally : Tally
-    pub reached : Reached allowance line index tally
+    pub comes : AsksAt allowance line index tally
     pub has : P line index tally
 
   -- a 10 comes from the NEAR walk of that point, which is on the sheet, against the other line

@@ -55,7 +55,7 @@ module _ (ps t : List ℤ) (z : Point) where
   unfolding inVisit
   right f n g =
       let r = rowAt t (n .row) in
-      let l = g .fits .some-segment in
+      let l = g .some-segment in
       right-node ps t (onSegment z) add LineA f n g (clearOf r (startOf ps n) (headingOf ps n) z)
       (count (crosses z (startOf ps n) (endOf ps n)))
       (λ c.

@@ -18,15 +18,14 @@ use Rattle.rules.specs.Plane.{eqZ, samePoint}
 use Rattle.rules.specs.Tree.{rowAt, noSplit}
 use Rattle.rules.specs.Rows.{good}
 use Rattle.rules.specs.Walk.{Visit, refuse, finish, pass, halve}
-use Rattle.rules.specs.Questions.{leaf, splitIn, leftOf, rightOf, openNode, startOf, endOf}
+use Rattle.rules.specs.Questions.{leaf, splitIn, leftOf, rightOf, startOf, endOf}
 use Rattle.limits.specs.Small.{OnSheet}
 use Rattle.visits.specs.Nodes.{Inner}
 use Rattle.visits.proofs.Nodes.{between-read}
 use Rattle.limits.proofs.OnSheets.{on-sheet}
 use Rattle.row.specs.Parts.{frameGood, leafFits, splitFits}
-use Rattle.row.specs.Stands.{Stands, EndsOn}
+use Rattle.row.specs.Stands.{EndsOn}
 use Rattle.row.proofs.Parts.{between-parts}
-use Rattle.row.proofs.Places.{opens}
 
 -- ---------------- what a rule tells that holds
 -- the points of a leaf differ
@@ -60,7 +59,8 @@ module _ {S : Type 0} (l : Line) (ps t : List ℤ) (n : Node) (g : S → S) (dis
   abbrev visitBy : Bool → Bool → Visit S Node
   visitBy fine end =
       cond fine
-      (cond dismissed (pass g) (cond end (cond test finish (pass g)) (openNode l ps n (splitIn row) halve)))
+      (cond dismissed (pass g)
+      (cond end (cond test finish (pass g)) (halve (leftOf n (splitIn row)) (rightOf n (splitIn row)))))
       (refuse 10 l (n .row))
 
   abbrev pub written : Visit S Node
@@ -95,16 +95,8 @@ module _ {S : Type 0} (l : Line) (ps t : List ℤ) (n : Node) (g : S → S) (dis
           (refuse 10 l (n .row)) ≡ written
       leaf-written e = by-parts on row-is f e
 
-      pub inner-written : Stands ps t n → leaf n ≡ false
+      pub inner-written : leaf n ≡ false
           → cond (splitFits row (n .first) (n .last))
           (cond dismissed (pass g) (halve (leftOf n (splitIn row)) (rightOf n (splitIn row))))
           (refuse 10 l (n .row)) ≡ written
-      inner-written h e = by (splitFits row (n .first) (n .last)) dismissed refl ∙ by-parts on row-is f e
-        where
-          by : (fits away : Bool) → splitFits row (n .first) (n .last) ≡ fits
-              → cond fits (cond away (pass g) (halve (leftOf n (splitIn row)) (rightOf n (splitIn row))))
-              (refuse 10 l (n .row))
-              ≡ cond fits (cond away (pass g) (openNode l ps n (splitIn row) halve)) (refuse 10 l (n .row))
-          by true true s = refl
-          by true false s = sym (opens h (split-between row (n .first) (n .last) s) l halve)
-          by false away s = refl
+      inner-written e = by-parts on row-is f e

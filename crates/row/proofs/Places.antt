@@ -1,21 +1,18 @@
 -- Where a node stands: the root stands inside its line and its table, and so do the halves of a node that does.
-use mathlib.Core.Path.{_≡_}
 use mathlib.Core.List.{List}
 use Prim.Native.Nat.{ℕ, _<_}
 use native.Mathlib.Omega.{arith}
 use lib.Dec.{T}
 use lib.IntN.{ℤ}
 use mir.Facts.{and-yes}
-use Rattle.rules.specs.declared.Line.{Line}
 use Rattle.rules.specs.declared.Node.{Node}
 use Rattle.rules.specs.Sheet.{point, segmentsOf, onSheet}
 use Rattle.rules.specs.Tree.{mostRows}
 use Rattle.rules.specs.Rows.{endsGood}
-use Rattle.rules.specs.Walk.{Visit}
-use Rattle.rules.specs.Questions.{root, leftOf, rightOf, openNode}
+use Rattle.rules.specs.Questions.{root, leftOf, rightOf}
 use Rattle.visits.specs.Fine.{LengthsFine}
 use Rattle.visits.specs.Nodes.{Inner}
-use Rattle.visits.proofs.Nodes.{root-fits, fits-row, fits-left, fits-right, open-fits}
+use Rattle.visits.proofs.Nodes.{root-fits, fits-row, fits-left, fits-right}
 use Rattle.row.specs.Stands.{Stands, EndsOn}
 
 pub root-stands : {ps t : List ℤ} → LengthsFine ps t → Stands ps t (root ps)
@@ -35,11 +32,6 @@ module _ {ps t : List ℤ} {n : Node} (h : Stands ps t n) where
 
     pub right-stands : Stands ps t (rightOf n s)
     right-stands = record { fine = h .fine; fits = fits-right (h .fits) inner; points-in = h .points-in }
-
-    -- and room for its children's rows: refusal 11 does not come
-    pub opens : {S N : Type 0} (l : Line) (go : Node → Node → Visit S N)
-        → openNode l ps n s go ≡ go (leftOf n s) (rightOf n s)
-    opens l go = open-fits l ps go (h .fits) inner
 
 -- ---------------- where a line begins and ends on the sheet so does its root, and so do halves that share a point on
 -- it

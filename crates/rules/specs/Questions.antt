@@ -1,9 +1,9 @@
 -- docs/RULES.md, section 4: what one visit of NEAR, MEET and IN does, AGREE as a row of NEAR walks, and what
 -- each question replies, refusals first.
-use mathlib.Core.Bool.{Bool, true, false, not, cond, _&&_, _||_}
+use mathlib.Core.Bool.{Bool, false, cond, _&&_, _||_}
 use mathlib.Core.List.{List, [], _∷_, _++_}
 use Prim.Native.Nat.{ℕ, zero, suc, _+_, _-_}
-use lib.Dec.{leb, ltb}
+use lib.Dec.{leb}
 use lib.IntN.{ℤ, pos, natAbs, _+ℤ_, _-ℤ_, _*ℤ_}
 use lib.Signed.{ltZ}
 use Rattle.rules.specs.declared.Line.{Line}
@@ -16,7 +16,7 @@ use Rattle.rules.specs.declared.Point.{Point}
 use Rattle.rules.specs.Plane.{direction, size², cAt, tAt}
 use Rattle.rules.specs.Sheet.{point, pointsOf, segmentsOf, onSheet}
 use Rattle.rules.specs.declared.Row.{Row}
-use Rattle.rules.specs.Tree.{rowAt, nodeC, nodeT, isLeaf, rowCount, leftRow, rightRow}
+use Rattle.rules.specs.Tree.{rowAt, isLeaf, leftRow, rightRow}
 use Rattle.rules.specs.Plain.{within, share, onSegment, crosses, _⊕_}
 use Rattle.rules.specs.declared.Word.the-variants.{YES, NO, INSIDE, OUTSIDE, ON, UNDECIDED}
 use Rattle.rules.specs.declared.Reply.{Reply}
@@ -47,19 +47,10 @@ Nothing = Unit {0}
 abbrev pub splitIn : Row → ℕ
 splitIn r = natAbs (r .split)
 
-module _ {S N : Type 0} where
-  -- a row read at a visit is bad: 10, at the row
-  abbrev pub readRow : Line → List ℤ → List ℤ → Node → (Row → Visit S N) → Visit S N
-  readRow l ps t n go =
-      cond (good ps (rowAt t (n .row)) (n .first) (n .last)) (go (rowAt t (n .row))) (refuse 10 l (n .row))
-
-  -- a child's row is not below 2n-1: 11, at the parent's row
-  abbrev pub openNode : Line → List ℤ → Node → ℕ → (Node → Node → Visit S N) → Visit S N
-  openNode l ps n split go =
-      cond
-      (leb (rowCount (segmentsOf ps)) (leftOf n split .row) || leb (rowCount (segmentsOf ps)) (rightOf n split .row))
-      (refuse 11 l (n .row))
-      (go (leftOf n split) (rightOf n split))
+-- a row read at a visit is bad: 10, at the row
+abbrev pub readRow : {S N : Type 0} → Line → List ℤ → List ℤ → Node → (Row → Visit S N) → Visit S N
+readRow l ps t n go =
+    cond (good ps (rowAt t (n .row)) (n .first) (n .last)) (go (rowAt t (n .row))) (refuse 10 l (n .row))
 
 -- the first point s of a node, and its direction u
 abbrev pub startOf : List ℤ → Node → Point
@@ -87,7 +78,7 @@ nearVisit l ps t z D n =
     readRow l ps t n λ r.
     cond (farFrom r (startOf ps n) (headingOf ps n) z D) (pass (λ k. k))
     (cond (leaf n) (cond (within z (startOf ps n) (endOf ps n) D) finish (pass (λ k. k)))
-    (openNode l ps n (splitIn r) halve))
+    (halve (leftOf n (splitIn r)) (rightOf n (splitIn r))))
 
 abbrev pub nearWalk : Line → List ℤ → List ℤ → Point → ℤ → Tally → Walked Nothing
 nearWalk l ps t z D y = walk (nearVisit l ps t z D) (segmentsOf ps) (root ps) tt y
@@ -140,8 +131,8 @@ meetVisit ps t qs t′ n =
     (cond (leaf (n .a) && leaf (n .b))
     (cond (share (startOf ps (n .a)) (endOf ps (n .a)) (startOf qs (n .b)) (endOf qs (n .b))) finish (pass (λ k. k)))
     (cond (leb (size (n .b)) (size (n .a)))
-    (openNode LineA ps (n .a) (splitIn r) (λ l h. halve (record { a = l; b = n .b }) (record { a = h; b = n .b })))
-    (openNode LineB qs (n .b) (splitIn q) (λ l h. halve (record { a = n .a; b = l }) (record { a = n .a; b = h })))))
+    (halve (record { a = leftOf (n .a) (splitIn r); b = n .b }) (record { a = rightOf (n .a) (splitIn r); b = n .b }))
+    (halve (record { a = n .a; b = leftOf (n .b) (splitIn q) }) (record { a = n .a; b = rightOf (n .b) (splitIn q) }))))
 
 abbrev pub meetWalk : List ℤ → List ℤ → List ℤ → List ℤ → Tally → Walked Nothing
 meetWalk ps t qs t′ y =
@@ -177,7 +168,7 @@ inVisit ps t z n =
     cond (clearOf r (startOf ps n) (headingOf ps n) z) (pass (count (crosses z (startOf ps n) (endOf ps n))))
     (cond (leaf n)
     (cond (onSegment z (startOf ps n) (endOf ps n)) finish (pass (count (crosses z (startOf ps n) (endOf ps n)))))
-    (openNode LineA ps n (splitIn r) halve))
+    (halve (leftOf n (splitIn r)) (rightOf n (splitIn r))))
 
 abbrev pub inWalk : List ℤ → List ℤ → Point → Tally → Walked Bool
 inWalk ps t z y = walk (inVisit ps t z) (segmentsOf ps) (root ps) false y

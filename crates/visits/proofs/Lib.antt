@@ -11,6 +11,7 @@ pub mod Told
 pub mod Levels
 pub mod Replies
 pub mod Nodes
+pub mod Reached
 pub mod Held
 pub mod Sound
 pub mod Visits

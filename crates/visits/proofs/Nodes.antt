@@ -1,6 +1,6 @@
 -- What a good row tells, where a node's rows stand in the table, and what a sound table tells at each node. The row
--- numbers of both children are kept in one place: `Fits`. So no child's row reaches 2n-1, whatever the table holds.
-use mathlib.Core.Path.{_≡_, subst}
+-- numbers of both children are kept in one place: `Fits`.
+use mathlib.Core.Path.{subst}
 use mathlib.Core.Bool.{Bool, true, not, cond, _&&_, and-comm}
 use mathlib.Core.List.{List}
 use mathlib.Core.Logic.{⊎-elim}
@@ -12,14 +12,12 @@ use lib.IntN.{ℤ, pos, negsuc, natAbs}
 use lib.Signed.{leZ, ltZ, _≤ℤ_, _<ℤ_, leZ-yes, ltZ-yes}
 use mir.Facts.{and-yes, and-no}
 use Rattle.integers.specs.Laws.{zarith}
-use Rattle.rules.specs.declared.Line.{Line}
 use Rattle.rules.specs.declared.Node.{Node}
 use Rattle.rules.specs.declared.Row.{Row}
 use Rattle.rules.specs.Sheet.{point, segmentsOf, onSheet, inSheet}
 use Rattle.rules.specs.Tree.{rowAt, rowCount}
 use Rattle.rules.specs.Rows.{rangeGood, splitGood, stripGood, sideGood, boxGood, endsGood, leafGood, good}
-use Rattle.rules.specs.Walk.{Visit}
-use Rattle.rules.specs.Questions.{root, leftOf, rightOf, leaf, size, splitIn, openNode}
+use Rattle.rules.specs.Questions.{root, leftOf, rightOf, leaf, size, splitIn}
 use Rattle.rules.specs.Build.{holdsPoint, holdsRun, soundFrom}
 use Rattle.visits.specs.Nodes.{Inner, Fits, RowGood, HoldsStart}
 use Rattle.visits.proofs.Tests.{four-yes}
@@ -95,17 +93,6 @@ module _ {rows : ℕ} {n : Node} (f : Fits rows n) {s : ℕ} (i : Inner (n .firs
 
   pub fits-right : Fits rows (rightOf n s)
   fits-right = record { some-segment = i .below; rows-in = omega (arith, f .rows-in, i .above) }
-
--- refusal 11 never comes
-pub open-fits : {S N : Type 0} (l : Line) (ps : List ℤ) {n : Node} {s : ℕ} (go : Node → Node → Visit S N)
-    → Fits (rowCount (segmentsOf ps)) n → Inner (n .first) s (n .last)
-    → openNode l ps n s go ≡ go (leftOf n s) (rightOf n s)
-open-fits l ps {n} {s} go f i =
-    let rows = rowCount (segmentsOf ps) in
-    simp (
-      lt-leb rows (leftOf n s .row) (fits-row (fits-left f i)),
-      lt-leb rows (rightOf n s .row) (fits-row (fits-right f i)),
-    )
 
 -- of a pair that is not two leaves, a node with no fewer segments than the other is no leaf
 pub larger-opens : (a b : Node) → T (not (leaf a && leaf b)) → size b ≤ size a → a .first + 1 < a .last

@@ -1,5 +1,5 @@
 -- A node of a sound table with all that is below it, under whatever number of levels is enough for it: its row is good
--- and holds its points, its rows stand in the table, and its halves are such nodes again.
+-- and holds its points, and its halves are such nodes again.
 use mathlib.Core.Path.{_≡_}
 use mathlib.Core.Bool.{true}
 use mathlib.Core.List.{List}
@@ -8,35 +8,32 @@ use native.Mathlib.Omega.{arith}
 use lib.Dec.{T}
 use lib.IntN.{ℤ}
 use Rattle.integers.specs.Order.{yes-T}
-use Rattle.rules.specs.declared.Line.{Line}
 use Rattle.rules.specs.declared.Node.{Node}
 use Rattle.rules.specs.Sheet.{point, segmentsOf}
-use Rattle.rules.specs.Tree.{rowAt, rowCount}
+use Rattle.rules.specs.Tree.{rowAt}
 use Rattle.rules.specs.Rows.{good}
-use Rattle.rules.specs.Walk.{Visit}
-use Rattle.rules.specs.Questions.{root, leftOf, rightOf, splitIn, startOf, headingOf, openNode}
+use Rattle.rules.specs.Questions.{root, leftOf, rightOf, splitIn, startOf, headingOf}
 use Rattle.rules.specs.Build.{soundFrom, sound}
-use Rattle.visits.specs.Nodes.{Inner, Fits}
-use Rattle.visits.proofs.Nodes.{GoodRow, good-read, root-fits, fits-left, fits-right, open-fits, SoundNode}
-use Rattle.visits.proofs.Nodes.{sound-read}
+use Rattle.visits.specs.Nodes.{Inner}
+use Rattle.visits.proofs.Nodes.{GoodRow, good-read, SoundNode, sound-read}
 use Rattle.visits.proofs.Held.{Held, held}
 
 pub record SoundTree (ps t : List ℤ) (n : Node) : Type 0 where
   pub levels : ℕ
   pub enough : n .last ≤ suc levels + n .first
   pub node : SoundNode levels ps t n
-  pub fits : Fits (rowCount (segmentsOf ps)) n
+  pub some-segment : n .first < n .last
 
-tree : {ps t : List ℤ} {n : Node} (f : ℕ) → T (soundFrom f ps t n) → n .last ≤ f + n .first
-    → Fits (rowCount (segmentsOf ps)) n → SoundTree ps t n
-tree zero h e k = absurd (omega (arith, k .some-segment))
+tree : {ps t : List ℤ} {n : Node} (f : ℕ) → T (soundFrom f ps t n) → n .last ≤ f + n .first → n .first < n .last
+    → SoundTree ps t n
+tree zero h e k = absurd (omega arith)
 tree {ps} {t} {n} (suc f) h e k =
-    record { levels = f; enough = e; node = sound-read f ps t n (k .some-segment) h; fits = k }
+    record { levels = f; enough = e; node = sound-read f ps t n k h; some-segment = k }
 
 -- the root of a sound table
 pub root-tree : (ps t : List ℤ) → T (sound ps t) → 1 ≤ segmentsOf ps → SoundTree ps t (root ps)
 unfolding sound
-root-tree ps t h one = tree (segmentsOf ps) h (omega arith) (root-fits ps one)
+root-tree ps t h one = tree (segmentsOf ps) h (omega arith) one
 
 module _ {ps t : List ℤ} {n : Node} (g : SoundTree ps t n) where
   -- refusal 10 does not come
@@ -53,7 +50,7 @@ module _ {ps t : List ℤ} {n : Node} (g : SoundTree ps t n) where
 
   -- a leaf ends at the next point
   pub leaf-next : n .last ≤ n .first + 1 → n .last ≡ suc (n .first)
-  leaf-next h = let l = g .fits .some-segment in omega arith
+  leaf-next h = let l = g .some-segment in omega arith
 
   -- any other node splits at an inner point
   abbrev pub splitAt : ℕ
@@ -70,12 +67,7 @@ module _ {ps t : List ℤ} {n : Node} (g : SoundTree ps t n) where
     high = inner .below
 
     pub left-tree : SoundTree ps t (leftOf n splitAt)
-    left-tree = tree (g .levels) (g .node .halves more .0) (omega (arith, g .enough, high)) (fits-left (g .fits) inner)
+    left-tree = tree (g .levels) (g .node .halves more .0) (omega (arith, g .enough, high)) low
 
     pub right-tree : SoundTree ps t (rightOf n splitAt)
-    right-tree = tree (g .levels) (g .node .halves more .1) (omega (arith, g .enough, low)) (fits-right (g .fits) inner)
-
-    -- refusal 11 does not come: the visit goes on to the halves
-    pub opens : {S N : Type 0} (l : Line) (go : Node → Node → Visit S N)
-        → openNode l ps n splitAt go ≡ go (leftOf n splitAt) (rightOf n splitAt)
-    opens l go = open-fits l ps go (g .fits) inner
+    right-tree = tree (g .levels) (g .node .halves more .1) (omega (arith, g .enough, low)) high

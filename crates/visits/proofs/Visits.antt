@@ -1,6 +1,6 @@
 -- The visit that NEAR and IN make of a node: dismiss it, test a leaf, or open it. It is right about the node where the
 -- dismissal is, as a leaf is its one segment and any other node is its halves. And the parts of MEET's visit.
-use mathlib.Core.Path.{_≡_, sym, subst}
+use mathlib.Core.Path.{_≡_}
 use mathlib.Core.Bool.{Bool, false, cond}
 use mathlib.Core.List.{List}
 use Prim.Native.Nat.{ℕ, suc, _<_}
@@ -15,17 +15,18 @@ use Rattle.rules.specs.Sheet.{point}
 use Rattle.rules.specs.Tree.{rowAt}
 use Rattle.rules.specs.Plain.{share}
 use Rattle.rules.specs.Walk.{Visit, finish, pass, halve}
-use Rattle.rules.specs.Questions.{leaf, leftOf, rightOf, splitIn, startOf, endOf, headingOf, readRow, openNode, apart}
+use Rattle.rules.specs.Questions.{leaf, leftOf, rightOf, splitIn, startOf, endOf, headingOf, readRow, apart}
 use Rattle.visits.specs.Tells.{Right}
 use Rattle.visits.proofs.Runs.{someIn, some-halves, some-leaf}
 use Rattle.visits.proofs.Told.{right-test}
-use Rattle.visits.proofs.Sound.{SoundTree, row-good, leaf-next, splitAt, low, high, left-tree, right-tree, opens}
+use Rattle.visits.proofs.Sound.{SoundTree, row-good, leaf-next, splitAt, low, high, left-tree, right-tree}
 
 -- what is dismissed, or a leaf that fails the exact test, passes with the count changed by h
 abbrev pub nodeVisit : {S : Type 0} → Line → List ℤ → List ℤ → Node → Bool → Bool → (S → S) → Visit S Node
 nodeVisit l ps t n dismissed exact h =
     readRow l ps t n λ r.
-    cond dismissed (pass h) (cond (leaf n) (cond exact finish (pass h)) (openNode l ps n (splitIn r) halve))
+    cond dismissed (pass h)
+    (cond (leaf n) (cond exact finish (pass h)) (halve (leftOf n (splitIn r)) (rightOf n (splitIn r))))
 
 -- a pair with another node in the place of A's, of B's
 abbrev pub withA : Pair → Node → Pair
@@ -67,5 +68,4 @@ module _ {S : Type 0} (ps t : List ℤ) (test : Point → Point → Bool) (add :
       let more = nleb→lt _ _ a in
       let lower = low g more in
       let higher = high g more in
-      subst (RightNode f n) (sym (opens g more l halve))
       (left-tree g more, right-tree g more, some-halves _ n _ lower higher, halves (splitAt g) lower higher))))

@@ -5,3 +5,4 @@ pub mod Clear
 pub mod Weights
 pub mod Fine
 pub mod Nodes
+pub mod Reached

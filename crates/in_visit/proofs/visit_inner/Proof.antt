@@ -35,7 +35,7 @@ returns-2 c =
     inner-visit (a .points .now) (a .table .now) (a .z) (a .node) (s .pre .0 .1) (r .row-at .ensures)
     (c .before .before .point-at .ensures) (c .before .point-at2 .ensures)
     (sym (f .before .frame-good .ensures) ∙ not-false _ (f .if1 .left))
-    (s .pre .0 .0) (s .pre .1) (c .inner-step .ensures)
+    (s .pre .1) (c .inner-step .ensures)
 
 pub visit-inner-spec : {M : Type 1} → statement M
 visit-inner-spec =

@@ -69,7 +69,7 @@ returns-3 c =
     let o = s k in
     let a = o .args in
     inner-visit (a .points .now) (a .table .now) (a .z) (a .node) (o .pre .1) (row k .row-at .ensures)
-    (read (k .before) .point-at .ensures) (k .before .before .point-at2 .ensures) (framed k) (o .pre .0)
+    (read (k .before) .point-at .ensures) (k .before .before .point-at2 .ensures) (framed k)
     (lt-leb _ _ (c .before .if2 .left))
     (λ D e. c .inner-step .ensures .0 D (stored (o .pre .3) tt ∙ e))
     (c .inner-step .ensures .1)
