@@ -21,7 +21,7 @@ use Rattle.rules.specs.Walk.{Visit, halve}
 use Rattle.rules.specs.Questions.{leftOf, rightOf, leaf, size, splitIn, readRow, startOf, endOf, headingOf}
 use Rattle.rules.specs.Questions.{farFrom, nearVisit, meetVisit, clearOf, count, inVisit}
 use Rattle.visits.specs.Nodes.{Inner}
-use Rattle.visits.proofs.Nodes.{good-read, larger-opens, other-opens}
+use Rattle.visits.proofs.Nodes.{good-inner, larger-opens, other-opens}
 use Rattle.visits.proofs.Visits.{nodeVisit, withA, withB, pairApart, pairShares}
 use Rattle.allowance.proofs.Walks.{Shares, refuses, finishes, passes, halves, Halving}
 
@@ -45,11 +45,6 @@ Spans f n = (n .first < n .last) × (n .last ≤ f + n .first)
 abbrev Halves : Node → ℕ → Type 0
 Halves n s = Inner (n .first) s (n .last)
 
--- so a good row of more than one segment splits
-good-between : (ps t : List ℤ) (n : Node) → T (good ps (rowAt t (n .row)) (n .first) (n .last)) → n .first + 1 < n .last
-    → Halves n (splitIn (rowAt t (n .row)))
-good-between ps t n g l = good-read ps (rowAt t (n .row)) (n .first) (n .last) g .split-between l
-
 -- NEAR's and IN's visits halve a node's segments
 node-halves : {S : Type 0} (l : Line) (ps t : List ℤ) (dismissed exact : Node → Bool) (h : Node → S → S)
     → Halving Spans size (λ n. nodeVisit l ps t n (dismissed n) (exact n) (h n))
@@ -61,7 +56,7 @@ node-halves l ps t dismissed exact h = record {
       shares-cond (dismissed n) (λ _. passes) λ _.
       shares-cond (leaf n) (λ _. shares-cond (exact n) (λ _. finishes) (λ _. passes)) λ e.
       let s = splitIn (rowAt t (n .row)) in
-      let b : Halves n s = good-between ps t n g (nleb→lt _ _ e) in
+      let b : Halves n s = good-inner ps t n g (nleb→lt _ _ e) in
       halves (leftOf n s) (rightOf n s) (omega arith) (omega arith) (omega arith);
 }
 
@@ -118,8 +113,8 @@ meet-halves ps t qs t′ = record {
       shares-cond (leb (size (n .b)) (size (n .a)))
       (λ k.
       let more = larger-opens (n .a) (n .b) e (leb→le (size (n .b)) (size (n .a)) k) in
-      a-halves f n _ h (good-between ps t (n .a) g more))
+      a-halves f n _ h (good-inner ps t (n .a) g more))
       (λ k.
       let more = other-opens (n .a) (n .b) e (nleb→lt (size (n .b)) (size (n .a)) k) in
-      b-halves f n _ h (good-between qs t′ (n .b) g′ more));
+      b-halves f n _ h (good-inner qs t′ (n .b) g′ more));
 }

@@ -1,5 +1,5 @@
--- What the code does with two good rows is what the definition does, and the node that splits does so at an inner point.
--- A bad row decides a visit without it.
+-- What the code does with two good rows is what the definition does, and the node that splits does so at an inner
+-- point. A bad row decides a visit without it.
 use mathlib.Core.Path.{_≡_, refl, sym, subst₂}
 use mathlib.Core.Bool.{Bool, true, false, not, cond, _&&_}
 use mathlib.Core.List.{List}

@@ -20,6 +20,7 @@ use Rattle.rules.specs.Rows.{rangeGood, splitGood, stripGood, sideGood, boxGood
 use Rattle.rules.specs.Questions.{root, leftOf, rightOf, leaf, size, splitIn}
 use Rattle.rules.specs.Build.{holdsPoint, holdsRun, soundFrom}
 use Rattle.visits.specs.Nodes.{Inner, Fits, RowGood, HoldsStart}
+use Rattle.visits.specs.Reached.{leftHalf, rightHalf}
 use Rattle.visits.proofs.Tests.{four-yes}
 use Rattle.visits.proofs.Counts.{everyOf-read}
 
@@ -80,6 +81,11 @@ good-read ps r first last h =
       end-on = on .1;
     }
 
+-- a good row of more than one segment splits at an inner point
+pub good-inner : (ps t : List ℤ) (n : Node) → RowGood ps t n → n .first + 1 < n .last
+    → Inner (n .first) (splitIn (rowAt t (n .row))) (n .last)
+good-inner ps t n g = good-read ps (rowAt t (n .row)) (n .first) (n .last) g .split-between
+
 -- ---------------- where the rows of a node stand
 pub root-fits : (ps : List ℤ) → 1 ≤ segmentsOf ps → Fits (rowCount (segmentsOf ps)) (root ps)
 root-fits ps h = record { some-segment = h; rows-in = omega arith }
@@ -109,17 +115,15 @@ pub record SoundNode (f : ℕ) (ps t : List ℤ) (n : Node) : Type 0 where
   pub row-good : RowGood ps t n
   pub holds : (i : ℕ) → n .first ≤ i → i ≤ n .last
       → T (holdsPoint (rowAt t (n .row)) ps (n .first) (n .last) (point ps i))
-  pub halves : n .first + 1 < n .last
-      → T (soundFrom f ps t (leftOf n (splitIn (rowAt t (n .row)))))
-      × T (soundFrom f ps t (rightOf n (splitIn (rowAt t (n .row)))))
+  pub halves : n .first + 1 < n .last → T (soundFrom f ps t (leftHalf t n)) × T (soundFrom f ps t (rightHalf t n))
 
 pub sound-read : (f : ℕ) (ps t : List ℤ) (n : Node) → n .first < n .last → T (soundFrom (suc f) ps t n)
     → SoundNode f ps t n
 unfolding soundFrom holdsRun
 sound-read f ps t n l h =
     let row = good ps (rowAt t (n .row)) (n .first) (n .last) in
-    let left = soundFrom f ps t (leftOf n (splitIn (rowAt t (n .row)))) in
-    let right = soundFrom f ps t (rightOf n (splitIn (rowAt t (n .row)))) in
+    let left = soundFrom f ps t (leftHalf t n) in
+    let right = soundFrom f ps t (rightHalf t n) in
     let q = and-yes (row && holdsRun ps t n) (cond (leaf n) true (left && right)) h in
     let g = and-yes row (holdsRun ps t n) (q .0) in
     record {

@@ -5,18 +5,16 @@ use Prim.Native.Nat.{_≤_}
 use lib.IntN.{ℤ}
 use Rattle.rules.specs.declared.Node.{Node}
 use Rattle.rules.specs.Sheet.{segmentsOf}
-use Rattle.rules.specs.Tree.{rowAt, rowCount}
+use Rattle.rules.specs.Tree.{rowCount}
 use Rattle.visits.specs.Nodes.{Fits}
 use Rattle.visits.specs.Reached.{Reached, at-root, to-left, to-right, RowsBelow}
-use Rattle.visits.proofs.Nodes.{good-read, root-fits, fits-row, fits-left, fits-right}
+use Rattle.visits.proofs.Nodes.{good-inner, root-fits, fits-row, fits-left, fits-right}
 
 module _ {ps t : List ℤ} (one : 1 ≤ segmentsOf ps) where
   reached-fits : {n : Node} → Reached ps t n → Fits (rowCount (segmentsOf ps)) n
   reached-fits at-root = root-fits ps one
-  reached-fits (to-left {n} h g more) =
-      fits-left (reached-fits h) (good-read ps (rowAt t (n .row)) (n .first) (n .last) g .split-between more)
-  reached-fits (to-right {n} h g more) =
-      fits-right (reached-fits h) (good-read ps (rowAt t (n .row)) (n .first) (n .last) g .split-between more)
+  reached-fits (to-left {n} h g more) = fits-left (reached-fits h) (good-inner ps t n g more)
+  reached-fits (to-right {n} h g more) = fits-right (reached-fits h) (good-inner ps t n g more)
 
   -- of a node that is reached, its row and both halves' rows are below 2n-1
   pub reached-below : (n : Node) → Reached ps t n → RowsBelow ps t n
