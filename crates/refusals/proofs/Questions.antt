@@ -3,7 +3,7 @@
 use mathlib.Core.Path.{_≡_, refl, sym, _∙_, ap, subst}
 use mathlib.Core.Bool.{Bool, true, false, _&&_}
 use mathlib.Core.List.{List, [], _∷_}
-use mathlib.Core.Logic.{_↔_, _⊎_, inl, inr, ⊎-elim}
+use mathlib.Core.Logic.{_↔_, _⊎_, _≢_, inl, inr, ⊎-elim}
 use mathlib.Core.Option.{Option, none}
 use Prim.Native.Nat.{ℕ, _+_, _≤_, _<_}
 use native.Mathlib.Omega.{arith}
@@ -22,6 +22,7 @@ use Rattle.rules.specs.declared.Tally.{Tally}
 use Rattle.rules.specs.Sheet.{segmentsOf}
 use Rattle.rules.specs.Tree.{rowAt}
 use Rattle.rules.specs.Plain.{within, onSegment}
+use Rattle.rules.specs.declared.Word.the-variants.{UNDECIDED}
 use Rattle.rules.specs.declared.Reply.{Reply}
 use Rattle.rules.specs.Reply.{Check, firstRefusal, orRefused, refuses}
 use Rattle.rules.specs.Rows.{good}
@@ -34,10 +35,10 @@ use Rattle.visits.specs.Reached.{Reached, at-root, to-left, to-right, PairReach
 use Rattle.visits.proofs.Nodes.{larger-opens, other-opens}
 use Rattle.refusals.specs.Reason.{Reason}
 use Rattle.refusals.specs.Trace.{visitsOf}
-use Rattle.refusals.specs.Named.{FirstBad, RowBad, PairGood, PairBad}
+use Rattle.refusals.specs.Named.{FirstBad, RowBad, PairGood, PairBad, Counted}
 use Rattle.refusals.proofs.First.{first-exactly, number-exactly, below, after-read, number-last}
 use Rattle.refusals.proofs.Sees.{Sees, bad, finishes, passes, halves, Visits, sees-cond}
-use Rattle.refusals.proofs.Sees.{first-bad, bad-refused}
+use Rattle.refusals.proofs.Sees.{first-bad, bad-refused, Counts, walk-counts}
 
 -- ---------------- one visit
 
@@ -125,31 +126,44 @@ meet-visits ps t qs t′ = record {
 
 -- ---------------- a question that is answered by one walk after checks
 
+-- what a reply tells of its walk: the visits made, that none was left, or the refusal
+abbrev pub Tells : {S : Type 0} → Walked S → Reply → Type 0
+Tells (ended y) r = (r .number ≡ 0) × (r .visits ≡ y .visits)
+Tells (over s y) r = (r .number ≡ 0) × (r .visits ≡ y .visits)
+Tells spent r = (r .number ≡ 0) × (r .word ≡ UNDECIDED)
+Tells (refused f) r = r ≡ refuses f
+
+pub yes-or-no-tells : (a : ℕ) (w : Walked Nothing) → Tells w (yesOrNo a w)
+yes-or-no-tells a (ended y) = (refl, refl)
+yes-or-no-tells a (over s y) = (refl, refl)
+yes-or-no-tells a spent = (refl, refl)
+yes-or-no-tells a (refused r) = refl
+
+pub side-tells : (a : ℕ) (w : Walked Bool) → Tells w (sideOfRing a w)
+side-tells a (ended y) = (refl, refl)
+side-tells a (over true y) = (refl, refl)
+side-tells a (over false y) = (refl, refl)
+side-tells a spent = (refl, refl)
+side-tells a (refused r) = refl
+
+-- what does not reply 0 was refused
+zero-or-refused : {S : Type 0} (w : Walked S) (r : Reply) → Tells w r
+    → (r .number ≡ 0) ⊎ ((f : Refusal) × (w ≡ refused f))
+zero-or-refused (ended y) r t = inl (t .0)
+zero-or-refused (over s y) r t = inl (t .0)
+zero-or-refused spent r t = inl (t .0)
+zero-or-refused (refused f) r t = inr (f, refl)
+
 pub record Question (S N : Type 0) : Type 1 where
   pub visits : Visits S N
   pub levels : ℕ
   pub first : N
   pub count : S
   pub reply : ℕ → Walked S → Reply
-  pub told : (a : ℕ) (r : Refusal) → reply a (refused r) ≡ refuses r
-  pub else : (a : ℕ) (w : Walked S) → (reply a w .number ≡ 0) ⊎ ((r : Refusal) × (w ≡ refused r))
+  pub told : (a : ℕ) (w : Walked S) → Tells w (reply a w)
   pub checks : List Check
   pub few : T (below 10 checks)
   pub come : visits .Come first
-
--- what does not reply 0 was refused
-pub yes-or-no-else : (a : ℕ) (w : Walked Nothing) → (yesOrNo a w .number ≡ 0) ⊎ ((r : Refusal) × (w ≡ refused r))
-yes-or-no-else a (ended y) = inl refl
-yes-or-no-else a (over s y) = inl refl
-yes-or-no-else a spent = inl refl
-yes-or-no-else a (refused r) = inr (r, refl)
-
-pub side-else : (a : ℕ) (w : Walked Bool) → (sideOfRing a w .number ≡ 0) ⊎ ((r : Refusal) × (w ≡ refused r))
-side-else a (ended y) = inl refl
-side-else a (over true y) = inl refl
-side-else a (over false y) = inl refl
-side-else a spent = inl refl
-side-else a (refused r) = inr (r, refl)
 
 abbrev pub near-question : List ℤ → List ℤ → Point → ℤ → Question Nothing Node
 near-question ps t z D = record {
@@ -158,8 +172,7 @@ near-question ps t z D = record {
   first = root ps;
   count = tt;
   reply = yesOrNo;
-  told = λ a r. refl;
-  else = yes-or-no-else;
+  told = yes-or-no-tells;
   checks = nearChecks ps t z D;
   few = tt;
   come = at-root;
@@ -172,8 +185,7 @@ in-question ps t z = record {
   first = root ps;
   count = false;
   reply = sideOfRing;
-  told = λ a r. refl;
-  else = side-else;
+  told = side-tells;
   checks = inChecks ps t z;
   few = tt;
   come = at-root;
@@ -186,8 +198,7 @@ meet-question ps t qs t′ = record {
   first = record { a = root ps; b = root qs };
   count = tt;
   reply = yesOrNo;
-  told = λ a r. refl;
-  else = yes-or-no-else;
+  told = yes-or-no-tells;
   checks = meetChecks ps t qs t′;
   few = tt;
   come = (at-root, at-root);
@@ -204,7 +215,7 @@ bad-late {Good = Good} {Bad = Bad} ks r nodes y =
     absurd (omega (arith, h .counted)))
 
 module _ {S N : Type 0} (q : Question S N) (a : ℕ) where
-  open Question q using (visits, levels, first, count, reply, told, else, checks, few, come)
+  open Question q using (visits, levels, first, count, reply, told, checks, few, come)
 
   abbrev came : Walked S
   came = walk (visits .visit) levels first count (fresh a)
@@ -217,7 +228,7 @@ module _ {S N : Type 0} (q : Question S N) (a : ℕ) where
   Named r = FirstBad (visits .Good) (visits .Bad) (visitsOf (visits .visit) levels first count (fresh a)) (fresh a) r
 
   reply-at : (r : Refusal) → came ≡ refused r → reply a came ≡ refuses r
-  reply-at r w = ap (reply a) w ∙ told a r
+  reply-at r w = ap (reply a) w ∙ told a (refused r)
 
   -- after the checks a number is that of a refused walk: 10, at the first bad row
   late : (k : ℕ) → 0 < k → reply a came .number ≡ k → Named (reply a came) × (k ≡ 10)
@@ -225,7 +236,8 @@ module _ {S N : Type 0} (q : Question S N) (a : ℕ) where
       ⊎-elim (λ z. absurd (omega arith)) (λ w.
       let b = first-bad visits levels first count (fresh a) come (w .0) (w .1) in
       let s = reply-at (w .0) (w .1) in
-      (subst Named (sym s) (b .0), sym h ∙ ap (λ (x : Reply). x .number) s ∙ b .1)) (else a came)
+      (subst Named (sym s) (b .0), sym h ∙ ap (λ (x : Reply). x .number) s ∙ b .1))
+      (zero-or-refused came (reply a came) (told a came))
 
   -- it replies with a number below 10 exactly if the first of its checks that holds has that number
   pub early-exactly : (k : ℕ) → 0 < k → k < 10
@@ -243,6 +255,19 @@ module _ {S N : Type 0} (q : Question S N) (a : ℕ) where
         ∙ ap (λ (x : Reply). x .number) (reply-at (w .0) (w .1))
         ∙ first-bad visits levels first count (fresh a) come (w .0) (w .1) .1,
   )
+
+  -- it tells as many visits as nodes are visited
+  pub visits-counted : Counted checks replied (visitsOf (visits .visit) levels first count (fresh a))
+  visits-counted e =
+      subst (λ (o : Option Refusal). orRefused o (reply a came) .word ≢ UNDECIDED
+      → orRefused o (reply a came) .visits ≡ length (visitsOf (visits .visit) levels first count (fresh a))) (sym e)
+      (λ d. by came (reply a came) (told a came) (walk-counts visits levels first count (fresh a) come) d ∙ omega arith)
+    where
+      by : {k : ℕ} (w : Walked S) (r : Reply) → Tells w r → Counts visits k w → r .word ≢ UNDECIDED → r .visits ≡ k
+      by (ended y) r t c d = t .1 ∙ c
+      by (over s y) r t c d = t .1 ∙ c
+      by spent r t c d = absurd (d (t .1))
+      by (refused f) r t c d = ap (λ (x : Reply). x .visits) t ∙ c
 
   -- and with no number above 10
   pub ten-last : replied .number ≤ 10

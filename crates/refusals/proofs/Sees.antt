@@ -157,7 +157,24 @@ module _ {S N : Type 0} (vs : Visits S N) where
       nodes : Tally → N → N → List N
       nodes x l r = nodesOfBoth (visitsOf visit f l s x) (walk visit f l s x) (visitsOf visit f r)
 
+  -- how many visits a walk tells that it made; one that is spent tells none
+  abbrev pub Counts : ℕ → Walked S → Type 0
+  Counts k (ended v) = v .visits ≡ k
+  Counts k (over s v) = v .visits ≡ k
+  Counts k spent = Unit {0}
+  Counts k (refused r) = r .visits ≡ k
+
+  traced-counts : (nodes : List N) (y : Tally) (w : Walked S) → Traced nodes y w → Counts (y .visits + length nodes) w
+  traced-counts nodes y (ended v) h = h .1
+  traced-counts nodes y (over s v) h = h .1
+  traced-counts nodes y spent h = tt
+  traced-counts nodes y (refused r) h = h .0 .counted
+
   module _ (f : ℕ) (n : N) (s : S) (y : Tally) (come : Come n) where
+    -- the visits are the nodes that are visited
+    pub walk-counts : Counts (y .visits + length (visitsOf visit f n s y)) (walk visit f n s y)
+    walk-counts = traced-counts (visitsOf visit f n s y) y (walk visit f n s y) (walk-traced f n s y come)
+
     -- a walk is refused with 10 alone, and names the first bad row
     pub first-bad : (r : Refusal) → walk visit f n s y ≡ refused r
         → FirstBad Good Bad (visitsOf visit f n s y) y (refuses r) × (r .number ≡ 10)

@@ -3,7 +3,7 @@
 use mathlib.Core.Path.{_≡_}
 use mathlib.Core.Bool.{true, false}
 use mathlib.Core.List.{List, [], _∷_, _++_}
-use mathlib.Core.Logic.{_⊎_}
+use mathlib.Core.Logic.{_⊎_, _≢_}
 use mathlib.Core.Option.{none}
 use Prim.Native.Nat.{ℕ, _+_, _<_}
 use lib.IntN.{ℤ}
@@ -16,8 +16,9 @@ use Rattle.rules.specs.declared.Point.{Point}
 use Rattle.rules.specs.declared.Refusal.{Refusal}
 use Rattle.rules.specs.declared.Tally.{Tally}
 use Rattle.rules.specs.Sheet.{point, pointsOf, onSheet}
+use Rattle.rules.specs.declared.Word.the-variants.{UNDECIDED}
 use Rattle.rules.specs.declared.Reply.{Reply}
-use Rattle.rules.specs.Reply.{firstRefusal}
+use Rattle.rules.specs.Reply.{Check, firstRefusal}
 use Rattle.rules.specs.Walk.{fresh}
 use Rattle.rules.specs.Questions.{allNear, askAll, onAllNear, agreeChecks}
 use Rattle.visits.specs.Nodes.{RowGood}
@@ -55,6 +56,10 @@ InBad ps t z y r = FirstBad (RowGood ps t) (RowBad LineA ps t) (inVisited ps t z
 
 abbrev pub MeetBad : List ℤ → List ℤ → List ℤ → List ℤ → Tally → Reply → Type 0
 MeetBad ps t qs t′ y r = FirstBad (PairGood ps t qs t′) (PairBad ps t qs t′) (meetVisited ps t qs t′ y) y r
+
+-- ---- a question that no check refuses, and that is decided, tells as many visits as nodes are visited
+abbrev pub Counted : {N : Type 0} → List Check → Reply → List N → Type 0
+Counted checks r nodes = firstRefusal checks ≡ none → r .word ≢ UNDECIDED → r .visits ≡ length nodes
 
 -- ---- AGREE: the point that is asked
 -- the points 0 to i - 1 of a line are on the sheet
