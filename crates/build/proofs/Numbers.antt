@@ -1,20 +1,16 @@
 -- Numbers that fit an i32, as the machine reads them back: out of 64 bits, and out of 32 bits cast from 64.
 use mathlib.Core.Path.{_≡_, refl, ap, _∙_}
-use mathlib.Core.Bool.{Bool, true, false}
 use mathlib.Core.List.{List, [], _∷_, _++_}
 use lib.IntN.{ℤ}
-use lib.Signed.{ltZ}
 use mir.Syntax.{w32, w64}
 use mir.Val.{SFits, toZ, ofZ}
 use mir.Facts.{toZ-ofZ, sfits-widen}
-use Rattle.integers.specs.Laws.{cond-ind}
 use Rattle.table_truth.specs.RowRange.{AllFit}
-use Rattle.build.specs.Rows.{extreme}
 
-pub wide-same : {z : ℤ} → SFits w32 z → toZ w64 (ofZ w64 z) ≡ z
+wide-same : {z : ℤ} → SFits w32 z → toZ w64 (ofZ w64 z) ≡ z
 wide-same h = toZ-ofZ (sfits-widen {w = w32} tt h)
 
-pub narrow-same : {z : ℤ} → SFits w32 z → toZ w32 (ofZ w32 (toZ w64 (ofZ w64 z))) ≡ z
+narrow-same : {z : ℤ} → SFits w32 z → toZ w32 (ofZ w32 (toZ w64 (ofZ w64 z))) ≡ z
 narrow-same h = ap (λ (v : ℤ). toZ w32 (ofZ w32 v)) (wide-same h) ∙ toZ-ofZ h
 
 -- each number, out of 64 bits
@@ -38,11 +34,6 @@ narrows (z ∷ zs) = toZ w32 (ofZ w32 (toZ w64 (ofZ w64 z))) ∷ narrows zs
 pub narrows-same : (zs : List ℤ) → AllFit zs → narrows zs ≡ zs
 narrows-same [] h = refl
 narrows-same (z ∷ zs) h = λ d. narrow-same (h .0) d ∷ narrows-same zs (h .1) d
-
--- of two numbers that fit, the lesser does and the greater
-pub extreme-fits : (least : Bool) {a b : ℤ} → SFits w32 a → SFits w32 b → SFits w32 (extreme least a b)
-extreme-fits true {a} {b} h k = cond-ind (ltZ a b) a b (SFits w32) (λ _. h) (λ _. k)
-extreme-fits false {a} {b} h k = cond-ind (ltZ a b) b a (SFits w32) (λ _. k) (λ _. h)
 
 -- what fits, read out of 64 bits, may be cast to 32
 pub wide-fits : {z : ℤ} → SFits w32 z → SFits w32 (toZ w64 (ofZ w64 z))

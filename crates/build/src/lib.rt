@@ -16,6 +16,7 @@ pub fn build(points: &[i32], table: &mut [i32]) -> Built
     if let Built::Refused(refusal) = checked {
         return Built::Refused(refusal);
     }
-    rows::build_node(points, 0, points.len() / 2 - 1, table);
+    let last = points.len() / 2 - 1;
+    rows::build_node(&points, 0, last, table);
     Built::Written
 }

@@ -1,150 +1,191 @@
--- A run of points, read from its first point to point i: what is measured so far. The ends of a run have c = 0 and
--- stand farthest from its middle, so going through all the points finds the split among the inner ones.
+-- A run of points of which both ends are read, and then the inner points 1 to i: what is measured so far. The last
+-- point is taken before the inner ones, and the least and the greatest of some numbers do not depend on their order.
 use mathlib.Core.Path.{_≡_, refl, sym, ap, _∙_}
-use mathlib.Core.Bool.{Bool, true, false, cond, _&&_, _||_, and-false, or-true}
-use mathlib.Core.Logic.{⊎-elim}
+use mathlib.Core.Bool.{Bool, true, false, cond}
 use mathlib.Core.List.{List}
-use Prim.Native.Nat.{ℕ, zero, suc, _+_, _-_, _≤_, _<_}
+use Prim.Native.Nat.{ℕ, zero, suc, _+_, _-_, _≤_}
 use native.Mathlib.Nat.{zero-add, sub-zero}
 use native.Mathlib.Omega.{arith}
-use borrow.Author.Tests.{lt-ltb, le-ltb, eq-eqb}
-use lib.Dec.{ltb, eqb}
+use borrow.Author.Tests.{lt-ltb}
+use lib.Dec.{ltb}
 use lib.IntN.{ℤ, natAbs}
-use Rattle.integers.specs.Laws.{cond-ind}
-use Rattle.rules.specs.Plane.{direction}
+use lib.Signed.{_≤ℤ_, ≤ℤ-refl}
+use Rattle.integers.specs.Laws.{test-ind}
+use Rattle.integers.specs.Order.{minZ, maxZ, min-l, min-r, min-greatest, max-l, max-r, max-least, ≤ℤ-trans, ≤ℤ-antisym}
 use Rattle.rules.specs.Sheet.{point, segmentsOf}
 use Rattle.rules.specs.Tree.{nodeC, nodeT, least, greatest, height, offMiddle, better, best, splitOf, measured}
-use Rattle.visits.proofs.Terms.{c-start, t-start}
-use Rattle.table_truth.proofs.Rows.{≤-or->}
+use Rattle.table_truth.proofs.Rows.{best-between}
+use Rattle.run.specs.declared.Span.{Span}
 use Rattle.run.specs.declared.Top.{Top}
 use Rattle.run.specs.declared.Measured.{Measured}
-use Rattle.run.specs.Run.{startOf, spanWith, measuredWith, measureOf}
-use Rattle.run.proofs.Ends.{c-end}
+use Rattle.run.specs.Run.{endsOf, spanWith, topWith, measuredWith, measureOf}
+use Rattle.run.proofs.Ends.{c-end, c-least, c-greatest, t-least, t-greatest}
 
--- the best of the points 0 to i, the first point among them
-unfoldable pub topSoFar : List ℤ → ℕ → ℕ → ℕ
-topSoFar q last zero = 0
-topSoFar q last (suc i) = cond (better q 0 last (topSoFar q last i) (suc i)) (suc i) (topSoFar q last i)
+-- ---------------- the least and the greatest, the last number taken early
 
--- strip of the points 0 to i, and the split s
-abbrev upTo : List ℤ → ℕ → ℕ → ℕ → Measured
-upTo q last i s = record {
-  c = record { lo = least (λ j. nodeC q 0 last (point q j)) 0 i; hi = greatest (λ j. nodeC q 0 last (point q j)) 0 i };
-  t = record { lo = least (λ j. nodeT q 0 last (point q j)) 0 i; hi = greatest (λ j. nodeT q 0 last (point q j)) 0 i };
-  top = record { split = s; height = height q 0 last s };
-}
+-- proved once, of a choice of two numbers that comes after whatever comes before both
+module _ (R : ℤ → ℤ → Type 0)
+    (same : (z : ℤ) → R z z)
+    (antisym : (a b : ℤ) → R a b → R b a → a ≡ b)
+    (pick : ℤ → ℤ → ℤ)
+    (left : (a b z : ℤ) → R z (pick a b) → R z a)
+    (right : (a b z : ℤ) → R z (pick a b) → R z b)
+    (both : (a b z : ℤ) → R z a → R z b → R z (pick a b)) where
+  one-way : (a b c : ℤ) → R (pick (pick a b) c) (pick (pick a c) b)
+  one-way a b c =
+      let z = pick (pick a b) c in
+      let ab = left (pick a b) c z (same z) in
+      both (pick a c) b z (both a c z (left a b z ab) (right (pick a b) c z (same z))) (right a b z ab)
 
--- what is measured of the points 0 to i
-abbrev pub soFar : List ℤ → ℕ → ℕ → Measured
-soFar q last i = upTo q last i (topSoFar q last i)
+  swap : (a b c : ℤ) → pick (pick a b) c ≡ pick (pick a c) b
+  swap a b c = antisym (pick (pick a b) c) (pick (pick a c) b) (one-way a b c) (one-way a c b)
+
+min-swap : (a b c : ℤ) → minZ (minZ a b) c ≡ minZ (minZ a c) b
+min-swap =
+    swap _≤ℤ_ ≤ℤ-refl (λ _ _ h k. ≤ℤ-antisym h k) minZ (λ a b _ h. ≤ℤ-trans h (min-l a b))
+    (λ a b _ h. ≤ℤ-trans h (min-r a b)) (λ _ _ _ h k. min-greatest h k)
+
+max-swap : (a b c : ℤ) → maxZ (maxZ a b) c ≡ maxZ (maxZ a c) b
+max-swap =
+    swap (λ a b. b ≤ℤ a) ≤ℤ-refl (λ _ _ h k. ≤ℤ-antisym k h) maxZ (λ a b _ h. ≤ℤ-trans (max-l a b) h)
+    (λ a b _ h. ≤ℤ-trans (max-r a b) h) (λ _ _ _ h k. max-least h k)
+
+module _ (f : ℕ → ℤ) (last : ℕ) where
+  -- of f 0, .. f i and f last
+  abbrev spanTo : ℕ → Span
+  spanTo i = record { lo = minZ (least f 0 i) (f last); hi = maxZ (greatest f 0 i) (f last) }
+
+  span-more : (i : ℕ) → spanTo (suc i) ≡ spanWith (spanTo i) (f (suc i))
+  unfolding least greatest
+  span-more i =
+      let j = zero-add (suc i) in
+      (λ d. record {
+        lo = minZ (minZ (least f 0 i) (f (j d))) (f last);
+        hi = maxZ (maxZ (greatest f 0 i) (f (j d))) (f last);
+      })
+      ∙ (λ d. record {
+        lo = min-swap (least f 0 i) (f (suc i)) (f last) d;
+        hi = max-swap (greatest f 0 i) (f (suc i)) (f last) d;
+      })
+
+  -- of all of them
+  span-all : (k : ℕ) → suc k ≡ last → spanTo k ≡ record { lo = least f 0 last; hi = greatest f 0 last }
+  unfolding least greatest
+  span-all k e =
+      let j : last ≡ 0 + suc k = omega arith in
+      (λ d. record { lo = minZ (least f 0 k) (f (j d)); hi = maxZ (greatest f 0 k) (f (j d)) })
+      ∙ (λ d. record { lo = least f 0 (e d); hi = greatest f 0 (e d) })
+
+-- ---------------- the split
 
 module _ (q : List ℤ) (last : ℕ) where
-  -- the ends have no height
-  height-start : height q 0 last 0 ≡ 0
-  unfolding height
-  height-start = ap natAbs (c-start (point q 0) (direction (point q 0) (point q last)))
+  abbrev topAt : ℕ → Top
+  topAt s = record { split = s; height = height q 0 last s }
 
+  -- the best of the inner points 1 to i
+  abbrev pub topSoFar : ℕ → Top
+  topSoFar zero = record { split = 1; height = 0 }
+  topSoFar (suc i) = topAt (best q 0 last i)
+
+  pub top-below : (i : ℕ) → topSoFar i .split ≤ i + 1
+  top-below zero = omega arith
+  top-below (suc i) = let b = best-between q 0 last i in omega arith
+
+  -- point 1 takes its own place
+  first-top : (h : ℕ) → topWith last (record { split = 1; height = 0 }) 1 h ≡ record { split = 1; height = h }
+  first-top zero =
+      let t : Top = record { split = 1; height = 0 } in
+      test-ind (λ b. cond b t t ≡ t) (ltb (offMiddle 0 last 1) (offMiddle 0 last 1)) (λ _. refl) (λ _. refl)
+  first-top (suc h) = simp (lt-ltb 0 (suc h) (omega arith))
+
+  one-top : (b : Bool) (i s : ℕ) → topAt (cond b i s) ≡ cond b (topAt i) (topAt s)
+  one-top true i s = refl
+  one-top false i s = refl
+
+  top-more : (i : ℕ) → topSoFar (suc i) ≡ topWith last (topSoFar i) (suc i) (height q 0 last (suc i))
+  unfolding best better
+  top-more zero = sym (first-top (height q 0 last 1))
+  top-more (suc i) =
+      let s = best q 0 last i in
+      let j : 0 + 1 + suc i ≡ suc (suc i) = omega arith in
+      (λ d. topAt (cond (better q 0 last s (j d)) (j d) s)) ∙ one-top (better q 0 last s (suc (suc i))) (suc (suc i)) s
+
+  -- the last point has no height
   height-end : height q 0 last last ≡ 0
   unfolding height
   height-end = ap natAbs (c-end (point q 0) (point q last))
 
-  -- the best is one of them
-  pub top-below : (i : ℕ) → topSoFar q last i ≤ i
-  unfolding topSoFar
-  top-below zero = omega arith
-  top-below (suc i) =
-      let ih = top-below i in
-      cond-ind (better q 0 last (topSoFar q last i) (suc i)) (suc i) (topSoFar q last i) (λ n. n ≤ suc i)
-      (λ _. omega arith) (λ _. omega arith)
+  -- the best of all inner points; where there is none, it is the last point
+  top-all : (k : ℕ) → suc k ≡ last → topSoFar k ≡ topAt (splitOf q 0 last)
+  unfolding splitOf best
+  top-all zero e =
+      let h = sym (ap (height q 0 last) e ∙ height-end) in
+      let k : 0 ≡ last - 0 - 2 = omega arith in
+      (λ d. record { split = 1; height = h d }) ∙ (λ d. topAt (best q 0 last (k d)))
+  top-all (suc k) e = let j : k ≡ last - 0 - 2 = omega arith in λ d. topAt (best q 0 last (j d))
 
-  -- the first point alone
-  pub so-far-start : soFar q last 0 ≡ startOf
-  unfolding least greatest topSoFar
-  so-far-start =
-      let u = direction (point q 0) (point q last) in
+-- ---------------- what is measured
+
+module _ (q : List ℤ) (last : ℕ) where
+  -- the strip, the box and the split of the points 0 to i and of the last
+  abbrev pub soFar : ℕ → Measured
+  soFar i = record {
+    c = spanTo (λ j. nodeC q 0 last (point q j)) last i;
+    t = spanTo (λ j. nodeT q 0 last (point q j)) last i;
+    x = spanTo (λ j. point q j .x) last i;
+    y = spanTo (λ j. point q j .y) last i;
+    top = topSoFar q last i;
+  }
+
+  -- both ends alone
+  pub so-far-ends : soFar 0 ≡ endsOf (point q 0) (point q last)
+  unfolding least greatest
+  so-far-ends =
+      let s = point q 0 in
+      let e = point q last in
       λ d. record {
-        c = record { lo = c-start (point q 0) u d; hi = c-start (point q 0) u d };
-        t = record { lo = t-start (point q 0) u d; hi = t-start (point q 0) u d };
-        top = record { split = 0; height = height-start d };
+        c = record { lo = c-least s e d; hi = c-greatest s e d };
+        t = record { lo = t-least s e d; hi = t-greatest s e d };
+        x = endsOf s e .x;
+        y = endsOf s e .y;
+        top = endsOf s e .top;
       }
 
   -- one point more
   pub so-far-more : (i : ℕ)
-      → soFar q last (suc i)
-      ≡ measuredWith (soFar q last i) (nodeC q 0 last (point q (suc i))) (nodeT q 0 last (point q (suc i))) last (suc i)
-  unfolding least greatest topSoFar better height
-  so-far-more i =
-      let j = zero-add (suc i) in
-      let m = soFar q last i in
-      let e = one-top (better q 0 last (topSoFar q last i) (suc i)) (suc i) (topSoFar q last i) in
-      λ d. record {
-        c = spanWith (m .c) (nodeC q 0 last (point q (j d)));
-        t = spanWith (m .t) (nodeT q 0 last (point q (j d)));
-        top = e d;
-      }
-    where
-      topAt : ℕ → Top
-      topAt i = record { split = i; height = height q 0 last i }
+      → soFar (suc i)
+      ≡ measuredWith (soFar i) (nodeC q 0 last (point q (suc i))) (nodeT q 0 last (point q (suc i))) (point q (suc i))
+      last (suc i)
+  unfolding height
+  so-far-more i = λ d. record {
+    c = span-more (λ j. nodeC q 0 last (point q j)) last i d;
+    t = span-more (λ j. nodeT q 0 last (point q j)) last i d;
+    x = span-more (λ j. point q j .x) last i d;
+    y = span-more (λ j. point q j .y) last i d;
+    top = top-more q last i d;
+  }
 
-      one-top : (b : Bool) (i s : ℕ) → topAt (cond b i s) ≡ cond b (topAt i) (topAt s)
-      one-top true i s = refl
-      one-top false i s = refl
-
-  -- the first inner point takes the place of the first point
-  first-inner : 1 < last → better q 0 last 0 1 ≡ true
-  unfolding better
-  first-inner h =
-      ⊎-elim (λ k. even (omega (arith, height-start))) (λ k. above (omega (arith, height-start))) (≤-or-> h1 0)
-    where
-      h0 : ℕ
-      h0 = height q 0 last 0
-
-      h1 : ℕ
-      h1 = height q 0 last 1
-
-      even : h0 ≡ h1 → ltb h0 h1 || (eqb h0 h1 && ltb (offMiddle 0 last 1) (offMiddle 0 last 0)) ≡ true
-      even e =
-          let o = lt-ltb (offMiddle 0 last 1) (offMiddle 0 last 0) (omega arith) in
-          (λ d. ltb h0 h1 || (eq-eqb h0 h1 e d && o d)) ∙ or-true (ltb h0 h1)
-
-      above : h0 < h1 → ltb h0 h1 || (eqb h0 h1 && ltb (offMiddle 0 last 1) (offMiddle 0 last 0)) ≡ true
-      above l = λ d. lt-ltb h0 h1 l d || (eqb h0 h1 && ltb (offMiddle 0 last 1) (offMiddle 0 last 0))
-
-  -- the last point takes no place
-  last-passed : (s : ℕ) → s ≤ last → better q 0 last s last ≡ false
-  unfolding better
-  last-passed s h =
-      let l = ap (ltb (height q 0 last s)) height-end ∙ le-ltb (height q 0 last s) 0 (omega arith) in
-      let o = le-ltb (offMiddle 0 last last) (offMiddle 0 last s) (omega arith) in
-      (λ d. l d || (eqb (height q 0 last s) (height q 0 last last) && o d))
-      ∙ and-false (eqb (height q 0 last s) (height q 0 last last))
-
-  -- so before the last point the best is the best of the inner points
-  inner-top : (i : ℕ) → suc i < last → topSoFar q last (suc i) ≡ best q 0 last i
-  unfolding topSoFar best
-  inner-top zero h = ap (λ (b : Bool). cond b 1 0) (first-inner h)
-  inner-top (suc i) h =
-      let ih = inner-top i (omega arith) in
-      let j : suc (suc i) ≡ 0 + 1 + suc i = omega arith in
-      λ d. cond (better q 0 last (ih d) (j d)) (j d) (ih d)
-
-  -- and at the last point it is the split of the run
-  top-all : (i : ℕ) → suc (suc i) ≡ last → topSoFar q last (suc (suc i)) ≡ splitOf q 0 last
-  unfolding topSoFar splitOf
-  top-all i e =
-      let s = topSoFar q last (suc i) in
-      let k : i ≡ last - 0 - 2 = omega arith in
-      let p = last-passed s (omega (arith, top-below (suc i))) in
-      ap (λ (b : Bool). cond b (suc (suc i)) s) (ap (better q 0 last s) e ∙ p)
-      ∙ inner-top i (omega arith)
-      ∙ ap (best q 0 last) k
-
--- what is measured so far at the last point is what is measured of the run
-pub so-far-all : (q : List ℤ) → 1 < segmentsOf q → soFar q (segmentsOf q) (segmentsOf q) ≡ measureOf q
+-- what is measured once all inner points are read is what is measured of the run
+pub so-far-all : (q : List ℤ) (k : ℕ) → suc k ≡ segmentsOf q → soFar q (segmentsOf q) k ≡ measureOf q
 unfolding measured
-so-far-all q h =
-    let i = segmentsOf q - 2 in
-    let e : suc (suc i) ≡ segmentsOf q = omega arith in
-    let n = sym (sub-zero (segmentsOf q)) in
-    let s = ap (topSoFar q (segmentsOf q)) (sym e) ∙ top-all q (segmentsOf q) i e in
-    λ d. upTo q (segmentsOf q) (n d) (s d)
+so-far-all q k e =
+    let n = segmentsOf q in
+    let m = sym (sub-zero n) in
+    let c : ℕ → ℤ = λ j. nodeC q 0 n (point q j) in
+    let t : ℕ → ℤ = λ j. nodeT q 0 n (point q j) in
+    let x : ℕ → ℤ = λ j. point q j .x in
+    let y : ℕ → ℤ = λ j. point q j .y in
+    (λ d. record {
+      c = span-all c n k e d;
+      t = span-all t n k e d;
+      x = span-all x n k e d;
+      y = span-all y n k e d;
+      top = top-all q n k e d;
+    })
+    ∙ (λ d. record {
+      c = record { lo = least c 0 (m d); hi = greatest c 0 (m d) };
+      t = record { lo = least t 0 (m d); hi = greatest t 0 (m d) };
+      x = record { lo = least x 0 (m d); hi = greatest x 0 (m d) };
+      y = record { lo = least y 0 (m d); hi = greatest y 0 (m d) };
+      top = topAt q n (splitOf q 0 n);
+    })

@@ -1,9 +1,12 @@
-// A run of points, handed on by itself: its strip and its split point, found in one pass.
+// A run of points, handed on by itself: its strip, its box and its split point, found in one pass that reads each point
+// once.
 use line::c_at;
 use line::direction;
 use line::greater;
 use line::lesser;
 use line::point_at;
+use line::size2;
+use line::step;
 use line::t_at;
 use rules::Point;
 ghost use mathlib.Core.Path.{_≡_};
@@ -13,7 +16,7 @@ ghost use Rattle.integers.specs.Range.{Abs≤};
 ghost use Rattle.rules.specs.Plane.{cAt, tAt};
 ghost use Rattle.rules.specs.Sheet.{most, segmentsOf};
 ghost use Rattle.limits.specs.Small.{OnSheet, Small, widest};
-ghost use Rattle.run.specs.Run.{AllOnSheet, spanOf, spanWith, topWith, startOf, measuredWith, measureOf};
+ghost use Rattle.run.specs.Run.{AllOnSheet, spanOf, spanWith, topWith, endsOf, measuredWith, measureOf};
 
 // The least and the greatest of some numbers.
 pub struct Span {
@@ -27,18 +30,23 @@ pub struct Top {
     pub height: usize,
 }
 
-// What is measured of a run: its strip and its split point, which is counted from the run's first point.
+// What is measured of a run: its strip, its box and its split point, which is counted from the run's first point.
 pub struct Measured {
     pub c: Span,
     pub t: Span,
+    pub x: Span,
+    pub y: Span,
     pub top: Top,
 }
 
 impl Span {
-    fn of(v: i64) -> Span
-        ensures { λ r. ⌜ r ≡ spanOf v ⌝ }
+    fn of(a: i64, b: i64) -> Span
+        ensures { λ r. ⌜ r ≡ spanOf a b ⌝ }
     {
-        Span { lo: v, hi: v }
+        Span {
+            lo: lesser(a, b),
+            hi: greater(a, b),
+        }
     }
 
     fn with(self, v: i64) -> Span
@@ -63,10 +71,10 @@ fn height(c: i64) -> usize
 }
 
 impl Top {
-    // The top, or point i, which is above it, where that is better. Of two points, the later is nearer to the middle
-    // exactly when they add up to less than last.
+    // The top, or point i, which is not below it, where that is better. Of two points, the later is nearer to the
+    // middle exactly when they add up to less than last.
     fn with(self, last: usize, i: usize, height: usize) -> Top
-        requires { ⌜ (self .split < i) × (i ≤ last) × (last < most) ⌝ }
+        requires { ⌜ (self .split ≤ i) × (i ≤ last) × (last < most) ⌝ }
         ensures { λ r. ⌜ r ≡ topWith last self i height ⌝ }
     {
         let top = self.height;
@@ -84,15 +92,22 @@ impl Top {
 }
 
 impl Measured {
-    // The first point alone.
-    fn start() -> Measured
-        ensures { λ r. ⌜ r ≡ startOf ⌝ }
+    // The two ends a and b alone: c is 0 at both, t is 0 at a and at b the square of the step, which is 0 where they
+    // are equal.
+    fn ends(a: Point, b: Point) -> Measured
+        requires { ⌜ OnSheet a × OnSheet b ⌝ }
+        ensures { λ r. ⌜ r ≡ endsOf a b ⌝ }
     {
         Measured {
-            c: Span::of(0),
-            t: Span::of(0),
+            c: Span { lo: 0, hi: 0 },
+            t: Span {
+                lo: 0,
+                hi: size2(step(a, b)),
+            },
+            x: Span::of(a.x, b.x),
+            y: Span::of(a.y, b.y),
             top: Top {
-                split: 0,
+                split: 1,
                 height: 0,
             },
         }
@@ -100,30 +115,33 @@ impl Measured {
 
     // One point more: point i of a run to point last, with s and u.
     fn with(self, s: Point, u: Point, last: usize, i: usize, p: Point) -> Measured
-        requires { ⌜ OnSheet s × Small u × OnSheet p × (self .top .split < i) × (i ≤ last) × (last < most) ⌝ }
-        ensures { λ r. ⌜ r ≡ measuredWith self (cAt s u p) (tAt s u p) last i ⌝ }
+        requires { ⌜ OnSheet s × Small u × OnSheet p × (self .top .split ≤ i) × (i ≤ last) × (last < most) ⌝ }
+        ensures { λ r. ⌜ r ≡ measuredWith self (cAt s u p) (tAt s u p) p last i ⌝ }
     {
         let c = c_at(s, u, p);
         let t = t_at(s, u, p);
         Measured {
             c: self.c.with(c),
             t: self.t.with(t),
+            x: self.x.with(p.x),
+            y: self.y.with(p.y),
             top: self.top.with(last, i, height(c)),
         }
     }
 }
 
-// A run with an inner point.
+// A run of one segment or more: its ends, and then each inner point.
 pub fn measure(run: &[i32]) -> Measured
-    requires { ⌜ AllOnSheet (now run) × (1 < segmentsOf (now run)) × (segmentsOf (now run) < most) ⌝ }
+    requires { ⌜ AllOnSheet (now run) × (0 < segmentsOf (now run)) × (segmentsOf (now run) < most) ⌝ }
     ensures { λ r. ⌜ r ≡ measureOf (now (run .entry)) ⌝ }
 {
     let last = run.len() / 2 - 1;
     let s = point_at(run, 0);
-    let u = direction(s, point_at(run, last));
-    let mut m = Measured::start();
+    let e = point_at(run, last);
+    let u = direction(s, e);
+    let mut m = Measured::ends(s, e);
     let mut i: usize = 0;
-    while i < last {
+    while i + 1 < last {
         i += 1;
         m = m.with(s, u, last, i, point_at(run, i));
     }

@@ -64,21 +64,21 @@ pub greatest-part : (f g : ℕ → ℤ) (i j k : ℕ) → ((m : ℕ) → m ≤ k
 greatest-part = fold-part greatest-fold
 
 -- the least is at most each of the numbers
-pub least-below : (f : ℕ → ℤ) (i k j : ℕ) → i ≤ j → j ≤ i + k → least f i k ≤ℤ f j
+least-below : (f : ℕ → ℤ) (i k j : ℕ) → i ≤ j → j ≤ i + k → least f i k ≤ℤ f j
 least-below =
     fold-bounds least-fold (λ a v. a ≤ℤ v) ≤ℤ-refl
     (λ a b v h. ≤ℤ-trans (min-l a b) h) (λ a b v h. ≤ℤ-trans (min-r a b) h)
 
-pub greatest-above : (f : ℕ → ℤ) (i k j : ℕ) → i ≤ j → j ≤ i + k → f j ≤ℤ greatest f i k
+greatest-above : (f : ℕ → ℤ) (i k j : ℕ) → i ≤ j → j ≤ i + k → f j ≤ℤ greatest f i k
 greatest-above =
     fold-bounds greatest-fold (λ a v. v ≤ℤ a) ≤ℤ-refl
     (λ a b v h. ≤ℤ-trans h (max-l a b)) (λ a b v h. ≤ℤ-trans h (max-r a b))
 
 -- what holds of each of the numbers holds of the least and of the greatest
-pub least-all : (Q : ℤ → Type 0) (f : ℕ → ℤ) (i k : ℕ) → ((j : ℕ) → i ≤ j → j ≤ i + k → Q (f j)) → Q (least f i k)
+least-all : (Q : ℤ → Type 0) (f : ℕ → ℤ) (i k : ℕ) → ((j : ℕ) → i ≤ j → j ≤ i + k → Q (f j)) → Q (least f i k)
 least-all Q = fold-all least-fold Q (λ a b p q. cond-ind (ltZ a b) a b Q (λ _. p) (λ _. q))
 
-pub greatest-all : (Q : ℤ → Type 0) (f : ℕ → ℤ) (i k : ℕ) → ((j : ℕ) → i ≤ j → j ≤ i + k → Q (f j))
+greatest-all : (Q : ℤ → Type 0) (f : ℕ → ℤ) (i k : ℕ) → ((j : ℕ) → i ≤ j → j ≤ i + k → Q (f j))
     → Q (greatest f i k)
 greatest-all Q = fold-all greatest-fold Q (λ a b p q. cond-ind (ltZ a b) b a Q (λ _. q) (λ _. p))
 

@@ -1,8 +1,10 @@
 -- `build`: refused, or the rows of the root.
 use mathlib.Core.Path.{_≡_, refl, sym, ap, _∙_}
+use mathlib.Core.List.{List}
 use mathlib.Core.Option.{none}
 use native.Mathlib.Nat.{sub-zero}
 use native.Mathlib.Omega.{arith}
+use lib.IntN.{ℤ}
 use Rattle.rules.specs.declared.Built.the-variants.{Written}
 use Rattle.rules.specs.Sheet.{segmentsOf}
 use Rattle.rules.specs.Reply.{builtRefusal}
@@ -14,28 +16,34 @@ use borrow.Author.Needs.{needs}
 use Rattle.build.proofs.build.Statement.{statement}
 use Rattle.build.proofs.build.Tie as tie
 
+-- the line and the table that are lent
+abbrev points : tie.Start → List ℤ
+points s = s .args .t1 .now
+
+abbrev table : tie.Start → List ℤ
+table s = s .args .table .now
+
 returns : tie.Need-returns
 returns c =
-    let a = c .before .before .before .before .args in
-    let e =
-    sym (c .before .before .before .check .ensures (a .table .now) refl)
-    ∙ ap builtRefusal (c .before .checked .given .1) in
-    (sym e, sym (built-refused (a .points .now) (a .table .now) _ e))
+    let s = c .before .before .before .before in
+    let e = sym (c .before .before .before .check .ensures (table s) refl) ∙ ap builtRefusal (c .before .checked .given .1) in
+    (sym e, sym (built-refused (points s) (table s) _ e))
 
 -- past the checks
-passed : (c : tie.After-enum-told) → buildRefusal (c .before .before .before .args .points .now)
-    (c .before .before .before .args .table .now) ≡ none
+abbrev start : tie.After-enum-told → tie.Start
+start c = c .before .before .before
+
+passed : (c : tie.After-enum-told) → buildRefusal (points (start c)) (table (start c)) ≡ none
 passed c =
     let w : c .before .before .check .result ≡ Written = cc in
-    sym (c .before .before .check .ensures (c .before .before .before .args .table .now) refl) ∙ ap builtRefusal w
+    sym (c .before .before .check .ensures (table (start c)) refl) ∙ ap builtRefusal w
 
-fine : (c : tie.After-enum-told) → Accepted (c .before .before .before .args .points .now)
-    (c .before .before .before .args .table .now)
+fine : (c : tie.After-enum-told) → Accepted (points (start c)) (table (start c))
 fine c = accepted _ _ (passed c)
 
 build-node-requires : tie.Need-build-node-requires
 build-node-requires c κs =
-    let y = fine (c .before) in
+    let y = fine (c .before .before) in
     let l = y .lengths in (
       omega (arith, l .some-points),
       omega (arith, l .not-more),
@@ -47,12 +55,13 @@ build-node-requires c κs =
 returns-2 : tie.Need-returns-2
 unfolding tableOf
 returns-2 c =
-    let a = c .before .before .before .before .before .before .args in
-    let e = passed (c .before .before .before) in
-    let n = sub-zero (segmentsOf (a .points .now)) in (
+    let told = c .before .before .before .before in
+    let ps = points (start told) in
+    let e = passed told in
+    let n = sub-zero (segmentsOf ps) in (
       sym e,
-      rw (built-whole (a .points .now) (a .table .now) e)
-          (rw n at (c .before .build-node .ensures (segmentsOf (a .points .now)) (omega arith))),
+      rw (built-whole ps (table (start told)) e)
+          (rw n at (c .before .build-node .ensures (segmentsOf ps) (omega arith))),
     )
 
 pub build-spec : {M : Type 1} → statement M

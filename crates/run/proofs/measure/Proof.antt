@@ -1,7 +1,8 @@
--- `measure` goes from the first point to the last; what it has found at point i is what is measured so far.
+-- `measure` reads both ends, and then the inner points one by one; what it has found at point i is what is measured so
+-- far.
 use mathlib.Core.Path.{_≡_, sym, ap, subst, _∙_}
 use mathlib.Core.List.{List}
-use Prim.Native.Nat.{ℕ, _+_, _-_, _≤_}
+use Prim.Native.Nat.{ℕ, _+_, _-_, _<_}
 use native.Mathlib.Numerals.{add-one}
 use native.Mathlib.Omega.{arith}
 use lib.IntN.{ℤ}
@@ -12,14 +13,14 @@ use Rattle.rules.specs.Sheet.{point, segmentsOf}
 use Rattle.limits.specs.Small.{OnSheet, Small}
 use Rattle.limits.proofs.Sizes.{direction-small}
 use Rattle.run.specs.declared.Measured.{Measured}
-use Rattle.run.specs.Run.{measuredWith}
+use Rattle.run.specs.Run.{endsOf, measuredWith}
 use Rattle.run.proofs.Points.{read-on}
-use Rattle.run.proofs.SoFar.{soFar, top-below, so-far-start, so-far-more, so-far-all}
+use Rattle.run.proofs.SoFar.{soFar, top-below, so-far-ends, so-far-more, so-far-all}
 use Rattle.run.proofs.measure.Statement.{statement}
 use Rattle.run.proofs.measure.Tie as tie
 
 abbrev Inv-loop : tie.InvT-loop
-Inv-loop run last s u m₀ i₀ m i = (i ≤ last) × (m ≡ soFar run last i)
+Inv-loop run last s u m₀ i₀ m i = (i < last) × (m ≡ soFar run last i)
 
 abbrev μ-loop : tie.MeasureT-loop
 μ-loop run last s u m₀ i₀ m i = last - i
@@ -51,6 +52,14 @@ small : (c : Headed) → Small (c .direction .result)
 small c =
     let on = ends-on (c .before) in subst Small (sym (c .direction .ensures)) (direction-small (on .0) (on .1))
 
+loop-holds : tie.Need-loop-holds Inv-loop μ-loop
+loop-holds c =
+    let h = c .before in
+    let q = run h in
+    let s = h .before .before .point-at .ensures in
+    let e = h .before .point-at2 .ensures in
+    (omega arith, c .ends .ensures ∙ (λ d. endsOf (s d) (e d)) ∙ sym (so-far-ends q (segmentsOf q)))
+
 with-requires : tie.Need-with-requires Inv-loop μ-loop
 with-requires c κs =
     let t = c .before .before in
@@ -69,7 +78,7 @@ with-requires c κs =
 
 -- what is measured with the next point is what is measured up to it
 next : (q : List ℤ) (n i : ℕ) {m r : Measured} {s e u p : Point} → m ≡ soFar q n i → s ≡ point q 0 → e ≡ point q n
-    → u ≡ direction s e → p ≡ point q (i + 1) → r ≡ measuredWith m (cAt s u p) (tAt s u p) n (i + 1)
+    → u ≡ direction s e → p ≡ point q (i + 1) → r ≡ measuredWith m (cAt s u p) (tAt s u p) p n (i + 1)
     → r ≡ soFar q n (i + 1)
 next q n i m s e u p w = rw (add-one i) (rw (m, u, s, e, p, add-one i, ← so-far-more q n i) at w)
 
@@ -86,12 +95,11 @@ returns : tie.Need-returns Inv-loop μ-loop
 returns c =
     let t = c .before in
     let q = run (headed t) in
-    let i : t .loop .i ≡ segmentsOf q = omega arith in
-    t .loop .inv .1 ∙ ap (soFar q (segmentsOf q)) i ∙ so-far-all q (headed t .before .before .before .pre .1)
+    t .loop .inv .1 ∙ so-far-all q (t .loop .i) (omega arith)
 
 pub measure-spec : {M : Type 1} → statement M
 measure-spec =
     tie.close (tie.spec
-    Inv-loop μ-loop (search needs) (search needs) (search needs) (λ c κs. ends-on c) (search needs)
-    (λ c. let q = run (c .before) in (omega arith, c .start .ensures ∙ sym (so-far-start q (segmentsOf q))))
+    Inv-loop μ-loop (search needs) (search needs) (search needs) (λ c κs. ends-on c)
+    (λ c κs. ends-on (c .before)) loop-holds (search needs)
     (search needs) (search needs) with-requires (search needs) loop-again returns)

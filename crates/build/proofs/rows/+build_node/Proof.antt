@@ -1,5 +1,5 @@
--- `build_node`: its own row at the front, the rows of the left half in a part of just their length, those of the right
--- half in what is left, and its box by the first row of each. The number of segments falls.
+-- `build_node`: its own row at the front, the rows of the left half in a part of just their length, and those of the
+-- right half in what is left. The number of segments falls.
 use mathlib.Core.Path.{_≡_, refl, sym, _∙_}
 use mathlib.Core.List.{_++_}
 use Prim.Native.Nat.{ℕ, pred, _+_, _*_, _-_, _≤_, _<_}
@@ -7,37 +7,34 @@ use native.Mathlib.Omega.{arith}
 use lib.ListN.{length, take, drop}
 use Rattle.rules.specs.Tree.{width, numbers, rowsOf, rowCount}
 use Rattle.table_truth.proofs.Rows.{split-between, count-rows}
-use Rattle.build.specs.Rows.{nodeRow, unboxed, joined}
-use Rattle.build.proofs.Node.{leaf-level, inner-level, first-row}
-use Rattle.build.proofs.Boxes.{joined-same}
-use Rattle.build.proofs.Parts.{returned, three-parts, boxed-parts, row-room, left-count, all-count, left-room}
+use Rattle.build.specs.Rows.{nodeRow}
+use Rattle.build.proofs.Node.{leaf-level, inner-level}
+use Rattle.build.proofs.Parts.{returned, three-parts, row-room, left-count, all-count, left-room}
 use borrow.Author.Needs.{needs}
 use borrow.Fn.Kinds.{In}
 use borrow.Fn.PlainCycle.{Measures, is, falls, and}
 use Rattle.build.proofs.rows.build_node.Reads as node
 use Rattle.build.proofs.rows.build_node.Kinds as kinds
 use Rattle.build.proofs.rows.+build_node.Lts-build_node as lts
-use Rattle.build.proofs.rows.put_box.Reads as box
-use Rattle.build.proofs.rows.put_leaf.Reads as leaf
-use Rattle.build.proofs.rows.put_strip.Reads as strip
+use Rattle.build.proofs.rows.put_row.Reads as row
 use Rattle.build.proofs.rows.+build_node.{statement}
 use Rattle.build.proofs.rows.+build_node.Tie.{close}
 
-abbrev μ : Measures 2 kinds.ps ℕ
+abbrev μ : Measures 3 kinds.ps ℕ
 μ κs a = a .1 .1 .0 - a .1 .0
 
-abbrev here : ℕ → In 2 kinds.ps
-here t = and 2 kinds.ps (is 2 kinds.ps μ t) node.Pre
+abbrev here : ℕ → In 3 kinds.ps
+here t = and 3 kinds.ps (is 3 kinds.ps μ t) node.Pre
 
-abbrev below : ℕ → In 2 kinds.ps
-below t = and 2 kinds.ps (falls 2 kinds.ps _<_ μ t) node.Pre
+abbrev below : ℕ → In 3 kinds.ps
+below t = and 3 kinds.ps (falls 3 kinds.ps _<_ μ t) node.Pre
 
 -- what is asked and learnt of the calls
 abbrev calls : ℕ → lts.Claims
-calls t = (leaf.Asked, leaf.Learnt, strip.Asked, strip.Learnt, below t, node.Post, box.Asked, box.Learnt)
+calls t = (row.Asked, row.Learnt, below t, node.Post)
 
 module _ (t : ℕ) where
-  -- the places of the code: past the node's own row, past the left half's, past both
+  -- the places of the code: at its start, past the node's own row, past the left half's, past both
   abbrev Begun : Type 0
   Begun = lts.Start (calls t) (here t) node.Post
 
@@ -50,8 +47,11 @@ module _ (t : ℕ) where
   abbrev BothDone : Type 0
   BothDone = lts.After-table4 (calls t) (here t) node.Post
 
+  abbrev inner : Split → lts.Else1 (calls t) (here t) node.Post
+  inner c = c .before .before .before .before
+
   abbrev begun : Split → Begun
-  begun c = c .before .before .before .before
+  begun c = inner c .before
 
   abbrev split : LeftDone → Split
   split c = c .before .before .before
@@ -61,31 +61,31 @@ module _ (t : ℕ) where
 
   -- a node with an inner point splits there
   abbrev mid : Split → ℕ
-  mid c = c .before .put-strip .result
+  mid c = c .before .put-row2 .result
 
   between : (c : Split) → (begun c .args .first < mid c) × (mid c < begun c .args .last)
   between c =
       let a = begun c .args in
-      let b = split-between (a .points .now) (a .first) (a .last) (omega arith) in
-      let e = c .before .put-strip .ensures .0 in
+      let b = split-between (a .points .now .now) (a .first) (a .last) (omega arith) in
+      let e = c .before .put-row2 .ensures .0 in
       (omega arith, omega arith)
 
-  put-leaf-requires : lts.Need-put-leaf-requires (calls t) (here t) node.Post
-  put-leaf-requires c κs = let p = c .before .before .pre .1 in (p .0, omega arith, p .1, p .2, p .3, omega arith)
+  -- a row is put where there is room for it, of a leaf and of any other node
+  put-row-requires : lts.Need-put-row-requires (calls t) (here t) node.Post
+  put-row-requires c κs = let p = c .before .before .before .pre .1 in (p .0, p .1, p .2, p .3, omega arith)
+
+  put-row-requires-2 : lts.Need-put-row-requires-2 (calls t) (here t) node.Post
+  put-row-requires-2 c κs = let p = c .before .before .before .pre .1 in (p .0, p .1, p .2, p .3, omega arith)
 
   returns : lts.Need-returns (calls t) (here t) node.Post
   returns c f h =
-      let l = c .before .before in
-      let s = l .before .before in
+      let s = c .before .before .before .before .before in
       let a = s .args in
       let p = s .pre .1 in
       let leaf : a .last ≤ a .first + 1 = omega arith in
       let n : width ≡ width * rowCount (a .last - a .first) = omega arith in
-      let rows = leaf-level (a .points .now) (a .first) (a .last) f leaf (omega arith) in
-      c .before .put-leaf .ensures ∙ (λ d. rows d ++ drop (n d) (a .table .now))
-
-  put-strip-requires : lts.Need-put-strip-requires (calls t) (here t) node.Post
-  put-strip-requires c κs = let p = c .before .before .pre .1 in (omega arith, p .1, p .2, p .3, omega arith)
+      let rows = leaf-level (a .points .now .now) (a .first) (a .last) f leaf (omega arith) in
+      c .before .put-row .ensures .1 ∙ (λ d. rows d ++ drop (n d) (a .table .now))
 
   sub-right : lts.Need-sub-right (calls t) (here t) node.Post
   sub-right c = let b = between c in omega arith
@@ -130,62 +130,41 @@ module _ (t : ℕ) where
       let p = s .pre .1 in
       (omega (arith, s .pre .0), (omega arith, p .1, p .2, p .3, search needs))
 
-  put-box-requires : lts.Need-put-box-requires (calls t) (here t) node.Post
-  put-box-requires c κs =
-      let k = split (leftDone (c .before)) in
-      let b = between k in
-      let p = begun k .pre .1 in
-      (row-room _ _ _ (b .0) (b .1), search needs)
-
   returns-2 : lts.Need-returns-2 (calls t) (here t) node.Post
   returns-2 c f h =
-      let r = c .before .before .before in
-      let l = leftDone r in
+      let l = leftDone c in
       let e = split l in
       let a = begun e .args in
       let p = begun e .pre .1 in
-      let ps = a .points .now in
+      let ps = a .points .now .now in
       let s = mid e in
       let b = between e in
-      let deep : 0 < pred f = omega arith in
       let k = width * (2 * (s - a .first)) in
       let m = width * rowCount (a .last - s) in
       let L = rowsOf (pred f) ps (a .first) s in
       let R = rowsOf (pred f) ps s (a .last) in
-      let rest = drop (k + m) (a .table .now) in
-      let t1 = e .before .put-strip .last .1 .1 .1 .0 in
+      let t1 = e .before .put-row2 .last .1 .1 .1 .0 in
       let y1 = l .before .build-node .last .1 .1 .1 .0 in
       let t2 = returned width (k - width) t1 y1 in
-      let y2 = r .before .build-node2 .last .1 .1 .1 .0 in
-      let t3 = returned k (length t2 - k) t2 y2 in
-      let row = nodeRow ps (a .first) (a .last) in
-      let leftRow = nodeRow ps (a .first) s in
-      let rightRow = nodeRow ps s (a .last) in
+      let y2 = c .before .build-node2 .last .1 .1 .1 .0 in
+      let row = numbers (nodeRow ps (a .first) (a .last)) in
       let many = count-rows (pred f) ps (a .first) s (b .0) (omega arith) in
       let left : y1 ≡ L ++ drop (length L) (take (k - width) (drop width t1)) =
       rw (← many) at (l .before .build-node .ensures (pred f) (omega arith)) in
       let right : y2 ≡ R ++ drop m (take (length t2 - k) (drop k t2)) =
-      r .before .build-node2 .ensures (pred f) (omega arith) in
+      c .before .build-node2 .ensures (pred f) (omega arith) in
       let room = row-room (a .first) s (a .last) (b .0) (b .1) in
       let long = many ∙ sym (left-count (a .first) s (a .last) (b .0) (b .1)) in
       let fits = left-room (a .first) s (a .last) (b .0) (b .1) (length (a .table .now)) (p .4) in
-      let own = e .before .put-strip .ensures in
-      let parts : t3 ≡ (numbers (unboxed row) ++ (L ++ R)) ++ rest =
-      three-parts (a .table .now) (numbers (unboxed row)) L R t1 y1 t2 y2 k m refl room long fits (own .1) left refl
-      right in
-      let box : joined row leftRow rightRow ≡ row = joined-same ps (a .first) s (a .last) (b .0) (b .1) _ _ _ in
-      let inner = e .before .before .before .if1 .left in
-      let rows = inner-level ps (a .first) (a .last) f s inner (omega arith) (own .0) in
+      let own = e .before .put-row2 .ensures in
+      let rows = inner-level ps (a .first) (a .last) f s (inner e .if1 .left) (omega arith) (own .0) in
       let n = all-count (a .first) s (a .last) (b .0) (b .1) in
-      c .before .put-box .ensures
-      ∙ boxed-parts t3 L R rest k row leftRow rightRow room long parts
-      (first-row ps (a .first) s (pred f) (R ++ rest) deep) (first-row ps s (a .last) (pred f) rest deep)
-      ∙ (λ d. (numbers (box d) ++ (L ++ R)) ++ rest)
+      three-parts (a .table .now) row L R t1 y1 t2 y2 k m refl room long fits (own .1) left refl right
       ∙ (λ d. rows d ++ drop (n d) (a .table .now))
 
 pub +build-node-spec : {M : Type 1} → statement M
 +build-node-spec = close μ λ t. lts.spec (calls t) (here t) node.Post
-    (λ c. let p = c .pre .1 in omega arith) (put-leaf-requires t) (λ c. search needs) (returns t) (put-strip-requires t)
+    (λ c. let p = c .pre .1 in omega arith) (put-row-requires t) (λ c. search needs) (returns t) (put-row-requires-2 t)
     (sub-right t) (mul-right t) (mul-right-2 t) (sub-build-node t) (part-start t) (part-end t) (build-node-requires t)
     (mul-build-node t) (sub-build-node-2 t) (part-start-2 t) (λ c. search needs) (build-node-requires-2 t)
-    (put-box-requires t) (λ c. search needs) (returns-2 t)
+    (λ c. search needs) (returns-2 t)

@@ -5,31 +5,47 @@ use mir.Syntax.{w64}
 use Rattle.integers.specs.Range.{abs-at}
 use Rattle.integers.specs.Machine.{result}
 use Rattle.limits.proofs.Sizes.{c-wide}
+use Rattle.line.proofs.Stored.{point-stored}
 use Rattle.run.specs.Run.{spanWith, topWith}
 use borrow.Author.Needs.{needs}
 use Rattle.run.proofs.Measured.with.Statement.{statement}
 use Rattle.run.proofs.Measured.with.Tie as tie
 
+-- the places of the code: past the strip's spans, past both of them and past c
+abbrev stripped : tie.After-with4 → tie.After-with2
+stripped c = c .before .before .before .before
+
+abbrev spanned : tie.After-with4 → tie.After-with
+spanned c = stripped c .before
+
+abbrev beside : tie.After-with4 → tie.After-c-at
+beside c = spanned c .before .before
+
 height-requires : tie.Need-height-requires
 height-requires c κs =
-    let p = c .before .before .before in
-    let h = p .before .pre in
-    abs-at (sym (result w64 (p .c-at .ok) (p .c-at .ensures))) (c-wide (h .0) (h .1) (h .2))
+    let k = beside c in
+    let h = k .before .pre in
+    abs-at (sym (result w64 (k .c-at .ok) (k .c-at .ensures))) (c-wide (h .0) (h .1) (h .2))
 
 returns : tie.Need-returns
 returns c =
-    let p = c .before .before .before in
-    let k = p .before .before in
+    let y-read = c .before .before in
+    let k = beside y-read in
+    let t-read = spanned y-read .before in
     let a = k .before .args in
-    let c-read = result w64 (k .c-at .ok) (k .c-at .ensures) in
-    let t-read = result w64 (p .before .t-at .ok) (p .before .t-at .ensures) in
-    let e = p .with .ensures ∙ (λ d. spanWith (a .self .c) (c-read d)) in
-    let f = c .before .before .with2 .ensures ∙ (λ d. spanWith (a .self .t) (t-read d)) in
-    let tall = c .before .height .ensures ∙ (λ d. natAbs (c-read d)) in
-    let top = c .with3 .ensures ∙ (λ d. topWith (a .last) (a .self .top) (a .i) (tall d)) in
-    λ d. record { c = e d; t = f d; top = top d }
+    let p = point-stored (k .before .pre .2) in
+    let c-at = result w64 (k .c-at .ok) (k .c-at .ensures) in
+    let t-at = result w64 (t-read .t-at .ok) (t-read .t-at .ensures) in
+    let e = spanned y-read .with .ensures ∙ (λ d. spanWith (a .self .c) (c-at d)) in
+    let f = stripped y-read .with2 .ensures ∙ (λ d. spanWith (a .self .t) (t-at d)) in
+    let x = y-read .before .before .with3 .ensures ∙ (λ d. spanWith (a .self .x) (p d .x)) in
+    let y = y-read .with4 .ensures ∙ (λ d. spanWith (a .self .y) (p d .y)) in
+    let tall = c .before .height .ensures ∙ (λ d. natAbs (c-at d)) in
+    let top = c .with5 .ensures ∙ (λ d. topWith (a .last) (a .self .top) (a .i) (tall d)) in
+    λ d. record { c = e d; t = f d; x = x d; y = y d; top = top d }
 
 pub with-spec : {M : Type 1} → statement M
 with-spec =
     tie.close (tie.spec
-    (search needs) (search needs) (search needs) (search needs) height-requires (search needs) returns)
+    (search needs) (search needs) (search needs) (search needs) (search needs) (search needs) height-requires
+    (search needs) returns)
