@@ -43,7 +43,7 @@ pub fn generate(seed: u64, count: u64, output: impl Write) -> io::Result<()> {
 }
 
 /// splitmix64: short, and the same on every machine.
-struct Random(u64);
+pub(crate) struct Random(pub(crate) u64);
 
 impl Random {
     fn next(&mut self) -> u64 {
@@ -55,7 +55,7 @@ impl Random {
     }
 
     /// From `least` to `greatest`, both taken in. The tiny lean of the remainder does not matter.
-    fn between(&mut self, least: i64, greatest: i64) -> i64 {
+    pub(crate) fn between(&mut self, least: i64, greatest: i64) -> i64 {
         least + (self.next() % (greatest - least + 1) as u64) as i64
     }
 

@@ -30,10 +30,11 @@ pub struct Span {
 }
 
 impl Span {
-    fn only(value: i64) -> Span {
+    /// The shortest span with both in it.
+    fn of(one: i64, other: i64) -> Span {
         Span {
-            least: value,
-            greatest: value,
+            least: one.min(other),
+            greatest: one.max(other),
         }
     }
 
@@ -198,20 +199,23 @@ fn grow(run: &[i32], first: usize, table: &mut [i32]) {
 }
 
 /// The extents of a run of points, and the index in the run at which it splits (none for a single
-/// segment).
+/// segment). Each point is read once: the two ends, which give the frame, then each inner point.
 pub fn measure(run: &[i32]) -> (Extents, Option<usize>) {
     let last = run.len() / 2 - 1;
-    let start = point(run, 0);
-    let frame = Frame::of(start, point(run, last));
+    let (start, end) = (point(run, 0), point(run, last));
+    let frame = Frame::of(start, end);
+    // c is 0 at both ends, t is 0 and |u|^2; but a closed run, whose |u|^2 is 1, ends at t 0.
+    let end_t = if start == end { 0 } else { frame.square() };
     let mut extents = Extents {
-        c: Span::only(0),
-        t: Span::only(0),
-        x: Span::only(i64::from(start.x)),
-        y: Span::only(i64::from(start.y)),
+        c: Span::of(0, 0),
+        t: Span::of(0, end_t),
+        x: Span::of(i64::from(start.x), i64::from(end.x)),
+        y: Span::of(i64::from(start.y), i64::from(end.y)),
     };
     let mut split = None;
     let (mut farthest, mut off_middle) = (-1, 0);
-    for (index, p) in all_points(run).enumerate().skip(1) {
+    for index in 1..last {
+        let p = point(run, index);
         let (x, y) = (i64::from(p.x), i64::from(p.y));
         let c = frame.c(x, y);
         extents.c.widen(c);
@@ -220,12 +224,10 @@ pub fn measure(run: &[i32]) -> (Extents, Option<usize>) {
         extents.y.widen(y);
         // Farthest from the chord first, then nearest to the middle, then lowest: the scan goes
         // upward, so a later point must be strictly better.
-        if c.abs() >= farthest && index < last {
-            let off = (2 * index).abs_diff(last);
-            if c.abs() > farthest || off < off_middle {
-                (farthest, off_middle) = (c.abs(), off);
-                split = Some(index);
-            }
+        let off = (2 * index).abs_diff(last);
+        if c.abs() > farthest || (c.abs() == farthest && off < off_middle) {
+            (farthest, off_middle) = (c.abs(), off);
+            split = Some(index);
         }
     }
     (extents, split)
@@ -234,6 +236,7 @@ pub fn measure(run: &[i32]) -> (Extents, Option<usize>) {
 #[cfg(test)]
 mod tests {
     use super::*;
+    use crate::generate::Random;
 
     const L: [i32; 6] = [0, 0, 4, 3, 8, 0];
 
@@ -281,7 +284,14 @@ mod tests {
     fn of_equals_again_the_lower_splits() {
         assert_eq!(measure(&[0, 0, 1, 2, 2, 2, 3, 0]).1, Some(1));
         assert_eq!(measure(&[0, 0, 1, 2, 2, 0, 3, 0, 4, -2, 6, 0]).1, Some(1));
-        assert_eq!(measure(&[0, 0, 1, 0, 2, 0, 3, 0]).1, Some(1));
+        let all_c_are_0 = [
+            [0, 3, 1, 0, 0, 0, 9, 0, 3, 0, 0],
+            [0, 1, -1, 0, 0, 0, 1, 0, 1, 0, 0],
+            [1, 3, 2, 0, 0, 0, 4, 1, 3, 0, 0],
+            [1, 2, -1, 0, 0, 0, 1, 1, 2, 0, 0],
+            [2, 3, -1, 0, 0, 0, 1, 2, 3, 0, 0],
+        ];
+        assert_eq!(built(&[0, 0, 1, 0, 2, 0, 3, 0]), all_c_are_0.concat());
     }
 
     #[test]
@@ -298,6 +308,87 @@ mod tests {
         assert_eq!(split, Some(2));
         let spans = [extents.c, extents.t].map(|s| (s.least, s.greatest));
         assert_eq!(spans, [(-4, 0), (0, 4)]);
+    }
+
+    #[test]
+    fn closed_run_ends_at_t_0() {
+        let (extents, _) = measure(&[5, 5, 1, 5, 1, 9, 5, 5]);
+        assert_eq!((extents.t.least, extents.t.greatest), (-4, 0));
+    }
+
+    #[test]
+    fn in_a_closed_run_too_the_point_nearest_the_middle_splits() {
+        // Of the square's root, u = (1, 0): points 2 and 3 both have c 4.
+        let expected = [
+            [0, 4, 2, 0, 4, 0, 4, 0, 4, 0, 4],
+            [0, 2, 1, -16, 0, 0, 32, 0, 4, 0, 4],
+            [0, 1, -1, 0, 0, 0, 16, 0, 4, 0, 0],
+            [1, 2, -1, 0, 0, 0, 16, 4, 4, 0, 4],
+            [2, 4, 3, -16, 0, 0, 32, 0, 4, 0, 4],
+            [2, 3, -1, 0, 0, 0, 16, 0, 4, 4, 4],
+            [3, 4, -1, 0, 0, 0, 16, 0, 0, 0, 4],
+        ];
+        assert_eq!(built(&[0, 0, 4, 0, 4, 4, 0, 4, 0, 0]), expected.concat());
+        // The other way round points 1 and 2 do.
+        assert_eq!(measure(&[0, 0, 0, 4, 4, 4, 4, 0, 0, 0]).1, Some(2));
+    }
+
+    #[test]
+    fn half_is_measured_by_its_own_chord() {
+        // Point 1 lies left of the root's chord (c 8) and right of the left half's (c -2).
+        let expected = [
+            [0, 3, 2, 0, 24, 0, 64, 0, 8, 0, 3],
+            [0, 2, 1, -2, 0, 0, 25, 0, 4, 0, 3],
+            [0, 1, -1, 0, 0, 0, 5, 0, 2, 0, 1],
+            [1, 2, -1, 0, 0, 0, 8, 2, 4, 1, 3],
+            [2, 3, -1, 0, 0, 0, 25, 4, 8, 0, 3],
+        ];
+        assert_eq!(built(&[0, 0, 2, 1, 4, 3, 8, 0]), expected.concat());
+    }
+
+    /// What `measure` gives, by a pass over all points for each number, and a sort for the split.
+    fn measured_one_by_one(run: &[i32]) -> (Extents, Option<usize>) {
+        let points: Vec<Point> = all_points(run).collect();
+        let last = points.len() - 1;
+        let frame = Frame::of(points[0], points[last]);
+        let span = |number: &dyn Fn(i64, i64) -> i64| {
+            let numbers = || points.iter().map(|p| number(p.x.into(), p.y.into()));
+            Span {
+                least: numbers().min().expect("a run has points"),
+                greatest: numbers().max().expect("a run has points"),
+            }
+        };
+        let extents = Extents {
+            c: span(&|x, y| frame.c(x, y)),
+            t: span(&|x, y| frame.t(x, y)),
+            x: span(&|x, _| x),
+            y: span(&|_, y| y),
+        };
+        let mut inner: Vec<usize> = (1..last).collect();
+        inner.sort_by_key(|&i| {
+            let c = frame.c(points[i].x.into(), points[i].y.into());
+            (-c.abs(), (2 * i).abs_diff(last), i)
+        });
+        (extents, inner.first().copied())
+    }
+
+    #[test]
+    fn one_pass_measures_what_a_pass_for_each_number_does() {
+        let mut random = Random(3);
+        // A small reach brings ties and equal neighbours, the whole sheet the greatest numbers.
+        for reach in [1, 2, 5, i64::from(SHEET)] {
+            for count in 2..=9 {
+                for round in 0..200 {
+                    let mut number = || random.between(-reach, reach) as i32;
+                    let mut run: Vec<i32> = (0..2 * count).map(|_| number()).collect();
+                    let closed = round % 4 == 0;
+                    if closed {
+                        run.copy_within(..2, 2 * count - 2);
+                    }
+                    assert_eq!(measure(&run), measured_one_by_one(&run), "{run:?}");
+                }
+            }
+        }
     }
 
     #[test]
