@@ -123,6 +123,62 @@ fn a_table_one_number_short_is_refused_6_and_an_exact_or_longer_one_serves() {
 }
 
 #[test]
+fn rows_are_those_written_out_by_hand() {
+    let written: [(&[i32], &[[i32; ROW_WIDTH]]); 4] = [
+        // a closed run has u = (1,0); points 2 and 3 tie at c 4, and 2 is nearer to the middle
+        (
+            &[0, 0, 4, 0, 4, 4, 0, 4, 0, 0],
+            &[
+                [0, 4, 2, 0, 4, 0, 4, 0, 4, 0, 4],
+                [0, 2, 1, -16, 0, 0, 32, 0, 4, 0, 4],
+                [0, 1, -1, 0, 0, 0, 16, 0, 4, 0, 0],
+                [1, 2, -1, 0, 0, 0, 16, 4, 4, 0, 4],
+                [2, 4, 3, -16, 0, 0, 32, 0, 4, 0, 4],
+                [2, 3, -1, 0, 0, 0, 16, 0, 4, 4, 4],
+                [3, 4, -1, 0, 0, 0, 16, 0, 0, 0, 4],
+            ],
+        ),
+        // all c are 0; points 1 and 2 are as near to the middle, and the lower splits
+        (
+            &[0, 0, 1, 0, 2, 0, 3, 0],
+            &[
+                [0, 3, 1, 0, 0, 0, 9, 0, 3, 0, 0],
+                [0, 1, -1, 0, 0, 0, 1, 0, 1, 0, 0],
+                [1, 3, 2, 0, 0, 0, 4, 1, 3, 0, 0],
+                [1, 2, -1, 0, 0, 0, 1, 1, 2, 0, 0],
+                [2, 3, -1, 0, 0, 0, 1, 2, 3, 0, 0],
+            ],
+        ),
+        // point 1 lies on one side of the root's chord and on the other of the left half's
+        (
+            &[0, 0, 2, 1, 4, 3, 8, 0],
+            &[
+                [0, 3, 2, 0, 24, 0, 64, 0, 8, 0, 3],
+                [0, 2, 1, -2, 0, 0, 25, 0, 4, 0, 3],
+                [0, 1, -1, 0, 0, 0, 5, 0, 2, 0, 1],
+                [1, 2, -1, 0, 0, 0, 8, 2, 4, 1, 3],
+                [2, 3, -1, 0, 0, 0, 25, 4, 8, 0, 3],
+            ],
+        ),
+        // a closed run left of its start: t is 0 at its end, and not |u|^2, which is 1
+        (
+            &[5, 5, 1, 5, 1, 9, 5, 5],
+            &[
+                [0, 3, 2, 0, 4, -4, 0, 1, 5, 5, 9],
+                [0, 2, 1, 0, 16, 0, 32, 1, 5, 5, 9],
+                [0, 1, -1, 0, 0, 0, 16, 1, 5, 5, 5],
+                [1, 2, -1, 0, 0, 0, 16, 1, 1, 5, 9],
+                [2, 3, -1, 0, 0, 0, 32, 1, 5, 5, 9],
+            ],
+        ),
+    ];
+    for (points, rows) in written {
+        let table = Lent::built(points).table;
+        assert_eq!(table[..lent::table_len(points.len())], rows.concat());
+    }
+}
+
+#[test]
 fn the_worst_line_builds_with_every_split_at_an_end() {
     // of the points on the other side of the chord the last is always the farthest from it
     let points: Vec<i32> = (0..MOST_POINTS as i32)
