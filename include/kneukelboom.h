@@ -86,10 +86,10 @@ extern "C" {
 /*
  * The bytes of stack that a call takes at its deepest, for lines of so many segments: n for build; n for near and
  * inside, the greater of n and m for agree; n + m for meet. A built tree is that deep only where each of its splits
- * lies next to an end. Not proved: examples/stack.c measures it, on lines of 4,097 points (build 786,448 bytes, near
+ * lies next to an end. Not proved: examples/stack.c measures it, on lines of 4,097 points (build 393,392 bytes, near
  * 655,416, inside 655,408, agree 655,576, meet 1,179,720), and fails where that is more than is said here.
  */
-#define KNEUKELBOOM_STACK_BUILD(segments) (256 + 192 * (segments))
+#define KNEUKELBOOM_STACK_BUILD(segments) (256 + 96 * (segments))
 #define KNEUKELBOOM_STACK_WALK(segments) (256 + 160 * (segments))
 #define KNEUKELBOOM_STACK_MEET(segments) (256 + 144 * (segments))
 

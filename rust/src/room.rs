@@ -14,7 +14,7 @@ use crate::MOST_POINTS;
 
 /// The bytes of stack that building a tree of so many levels takes, as `KNEUKELBOOM_STACK_BUILD` of the header has it.
 pub const fn build(levels: usize) -> usize {
-    256 + 192 * levels
+    256 + 96 * levels
 }
 
 /// Of a walk down one tree, in `near`, `inside` and `agree`.
