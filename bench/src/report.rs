@@ -31,6 +31,43 @@ impl Question {
             Question::Agree => "agree",
         }
     }
+
+    /// The one that a bar speaks of, and the other one. A build is to measure each run whole, as form does.
+    fn yardsticks(self) -> [Yardstick; 2] {
+        match self {
+            Question::Build => [Yardstick::Form, Yardstick::Hand],
+            _ => [Yardstick::Hand, Yardstick::Form],
+        }
+    }
+}
+
+/// A tree written by hand that ours is held against.
+#[derive(Clone, Copy)]
+enum Yardstick {
+    Hand,
+    Form,
+}
+
+impl Yardstick {
+    fn name(self, question: Question) -> String {
+        let by = match self {
+            Yardstick::Hand => "hand",
+            Yardstick::Form => "form",
+        };
+        format!(
+            "{}: ours at most 1.10 times {by}, from n = 64 on",
+            question.name()
+        )
+    }
+
+    /// The cells with their ratio.
+    fn of<'a>(self, rows: impl Iterator<Item = &'a Row>) -> Vec<(&'a Row, f64)> {
+        let ratio = |row: &'a Row| match self {
+            Yardstick::Hand => (row, row.times.ours_by_hand),
+            Yardstick::Form => (row, row.times.ours_by_form),
+        };
+        rows.map(ratio).collect()
+    }
 }
 
 /// A cell of the table: one kind of question about one kind of line. What does not apply is not a number.
@@ -177,13 +214,10 @@ impl Report {
         println!("\nbars");
         let mut met = true;
         let from_64 = |question| self.of(question).filter(|row| row.n >= 64);
+        let at_most = |ratio| ratio <= 1.10;
         for question in QUESTIONS {
-            let name = format!(
-                "{}: ours at most 1.10 times hand, from n = 64 on",
-                question.name()
-            );
-            let cells = from_64(question).map(|row| (row, row.times.ours_by_hand));
-            met &= bar(&name, cells.collect(), |ratio| ratio <= 1.10);
+            let by = question.yardsticks()[0];
+            met &= bar(&by.name(question), by.of(from_64(question)), at_most);
         }
         let name = "near, near the line, n = 4,096: ours at least 8 times as fast as plain";
         let cells = self
@@ -198,19 +232,10 @@ impl Report {
         let cells = cells.map(|row| (row, row.times.plain_by_ours));
         met &= bar(name, cells.collect(), |ratio| ratio >= 1_000.0);
 
-        println!("\nbeside the bars: what the form costs");
-        for question in [
-            Question::Build,
-            Question::Near,
-            Question::In,
-            Question::Agree,
-        ] {
-            let name = format!(
-                "{}: ours at most 1.10 times form, from n = 64 on",
-                question.name()
-            );
-            let cells = from_64(question).map(|row| (row, row.times.ours_by_form));
-            bar(&name, cells.collect(), |ratio| ratio <= 1.10);
+        println!("\nbeside the bars: against the other hand-written tree");
+        for question in QUESTIONS.into_iter().filter(|&q| q != Question::Meet) {
+            let by = question.yardsticks()[1];
+            bar(&by.name(question), by.of(from_64(question)), at_most);
         }
         met
     }
