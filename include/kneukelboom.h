@@ -168,7 +168,10 @@ typedef struct kneukelboom_reply {
  * where none is.
  */
 
-/* Writes the table of a line: built, or refused and nothing is written. */
+/*
+ * Writes the table of a line: built, or refused and nothing is written. Past the checks, each point is read once for
+ * each node that covers it (not proved: examples/reads.c counts).
+ */
 kneukelboom_reply kneukelboom_build(const int32_t *points, size_t points_len, int32_t *table, size_t table_len);
 
 /* Is (x,y) within the distance of some segment of the line? Exactly that far is within. Yes, no, undecided, refused. */
