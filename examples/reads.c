@@ -3,8 +3,8 @@
  * that may not be read: each read is caught and counted, let through as one step, and the memory closed again.
  *
  * Measuring a node is to read each point of its run once. What the checks read is counted by a build that passes all of
- * them but the last (refusal 6) and is taken off. Prints a line for each line; ends with status 1 where a number is read
- * more often than there are nodes that cover its point.
+ * them but the last (refusal 6), and is taken off. Prints the reads of each line; ends with status 1 where a number is
+ * read more often than there are nodes that cover its point.
  */
 #define _GNU_SOURCE
 #include "kneukelboom.h"

@@ -25,8 +25,9 @@ table s = s .args .table .now
 
 returns : tie.Need-returns
 returns c =
-    let s = c .before .before .before .before in
-    let e = sym (c .before .before .before .check .ensures (table s) refl) ∙ ap builtRefusal (c .before .checked .given .1) in
+    let checked = c .before .before .before in
+    let s = checked .before in
+    let e = sym (checked .check .ensures (table s) refl) ∙ ap builtRefusal (c .before .checked .given .1) in
     (sym e, sym (built-refused (points s) (table s) _ e))
 
 -- past the checks
