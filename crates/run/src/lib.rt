@@ -93,7 +93,7 @@ impl Top {
 
 impl Measured {
     // The two ends a and b alone: c is 0 at both, t is 0 at a and at b the square of the step, which is 0 where they
-    // are equal.
+    // are equal. Point 1 stands for the split until it is read.
     fn ends(a: Point, b: Point) -> Measured
         requires { ⌜ OnSheet a × OnSheet b ⌝ }
         ensures { λ r. ⌜ r ≡ endsOf a b ⌝ }
