@@ -87,8 +87,8 @@ fn put_row(points: &[i32], first: usize, last: usize, table: &mut [i32]) -> usiz
 }
 
 // Writes the rows of the node that covers the points first to last at the front of the table: its own, and then those
-// of its halves, which share the split point. A row is put in two places, so that the compiler keeps `put_row` a
-// function of its own, and a level of calls takes half the stack.
+// of its halves, which share the split point. A row is put in two places: so the compiler keeps `put_row` a function of
+// its own, and what that works with is off the stack before the halves are built.
 pub fn build_node(points: &&[i32], first: usize, last: usize, table: &mut [i32])
     requires { ⌜ (first < last) × (last < most) × (2 * last + 2 ≤ length (now (now points)))
         × AllOnSheet (now (now points)) × (2 * width * last ≤ length (now table) + 2 * width * first + width) ⌝ }
