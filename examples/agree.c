@@ -10,7 +10,7 @@
 #define ROOM (2 * (KNEUKELBOOM_MOST_POINTS + 1))
 
 typedef struct {
-    int32_t points[ROOM], table[KNEUKELBOOM_TABLE_LEN(ROOM)];
+    int64_t points[ROOM], table[KNEUKELBOOM_TABLE_LEN(ROOM)];
     size_t points_len, table_len;
 } survey;
 

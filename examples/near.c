@@ -4,8 +4,8 @@
 
 int main(void) {
     const char *words[] = {"built", "yes", "no", "inside", "outside", "on", "undecided", "refused"};
-    const int32_t points[6] = {0, 0, 4, 3, 8, 0};
-    int32_t table[KNEUKELBOOM_TABLE_LEN(6)];
+    const int64_t points[6] = {0, 0, 4, 3, 8, 0};
+    int64_t table[KNEUKELBOOM_TABLE_LEN(6)];
     kneukelboom_reply reply = kneukelboom_build(points, 6, table, KNEUKELBOOM_TABLE_LEN(6));
     printf("%s\n", words[reply.word]);
     for (uint32_t allowance = 1; allowance <= 2; allowance++) {

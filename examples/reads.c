@@ -18,11 +18,11 @@
 #define POINTS 257
 #define NUMBERS (2 * POINTS)
 #define TABLE_NUMBERS KNEUKELBOOM_TABLE_LEN(NUMBERS)
-#define ROOM 4096 /* a page, more than the numbers take */
+#define ROOM 8192 /* whole pages, more than the numbers take */
 #define ONE_STEP 0x100 /* the processor's trap flag: a signal comes after the next instruction */
 
-static int32_t *points;
-static int32_t table[TABLE_NUMBERS];
+static int64_t *points;
+static int64_t table[TABLE_NUMBERS];
 static unsigned reads[NUMBERS];
 
 /* ---- reads, one by one */
@@ -34,7 +34,7 @@ static void on_read(int number, siginfo_t *about, void *context) {
         *flags &= ~(greg_t)ONE_STEP;
         return;
     }
-    size_t at = (size_t)((char *)about->si_addr - (char *)points) / sizeof(int32_t);
+    size_t at = (size_t)((char *)about->si_addr - (char *)points) / sizeof *points;
     if (at >= NUMBERS) {
         static const char said[] = "a read outside of the points\n";
         _exit(write(2, said, sizeof said - 1) < 0 ? 2 : 1);
@@ -63,9 +63,9 @@ static uint32_t read_by(size_t table_len) {
 }
 
 /* The nodes that cover a point, by the rows that are built. */
-static unsigned nodes_of(int32_t point) {
+static unsigned nodes_of(int64_t point) {
     unsigned nodes = 0;
-    for (const int32_t *row = table; row < table + TABLE_NUMBERS; row += KNEUKELBOOM_ROW_WIDTH) {
+    for (const int64_t *row = table; row < table + TABLE_NUMBERS; row += KNEUKELBOOM_ROW_WIDTH) {
         nodes += row[0] <= point && point <= row[1];
     }
     return nodes;
@@ -76,7 +76,7 @@ static int measure(const char *said) {
     uint32_t short_table = read_by(TABLE_NUMBERS - 1);
     memcpy(checks, reads, sizeof checks);
     uint32_t built = read_by(TABLE_NUMBERS);
-    for (int32_t i = 0; i < NUMBERS; i++) {
+    for (int64_t i = 0; i < NUMBERS; i++) {
         unsigned measuring = reads[i] - checks[i];
         total += measuring;
         too_often += measuring > nodes_of(i / 2);
@@ -87,7 +87,7 @@ static int measure(const char *said) {
 
 /* ---- lines */
 
-static void put(int32_t i, int32_t x, int32_t y) {
+static void put(int64_t i, int64_t x, int64_t y) {
     points[2 * i] = x;
     points[2 * i + 1] = y;
 }
@@ -99,11 +99,11 @@ int main(void) {
         return 1;
     }
     catch_reads();
-    for (int32_t i = 0; i < POINTS; i++) {
+    for (int64_t i = 0; i < POINTS; i++) {
         put(i, 40 * i, i * i % 97);
     }
     failed |= measure("a river");
-    for (int32_t i = 0; i < POINTS; i++) {
+    for (int64_t i = 0; i < POINTS; i++) {
         put(i, i, (i % 2 == 0 ? 1 : -1) * (16000 - 3 * i));
     }
     failed |= measure("a comb");

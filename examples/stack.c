@@ -23,67 +23,70 @@
 #define ALLOWANCE 200000
 
 typedef struct line {
-    int32_t points[NUMBERS];
-    int32_t table[TABLE_NUMBERS];
+    int64_t points[NUMBERS];
+    int64_t table[TABLE_NUMBERS];
 } line;
 
 typedef struct question {
-    enum { NOTHING, BUILD, NEAR, INSIDE, MEET, AGREE } call;
+    enum { NOTHING, BUILD, WIDEN, NEAR, INSIDE, MEET, AGREE } call;
     line *a;
     const line *b;
     kneukelboom_reply reply;
 } question;
+
+/* Points of version 1. */
+static int32_t old[NUMBERS];
 
 static unsigned failures = 0;
 
 /* ---- lines */
 
 /* Strokes from side to side, each shorter than the one before: every split is next to the first point. */
-static void make_comb(line *l, int32_t height) {
-    for (int32_t i = 0; i < POINTS; i++) {
-        int32_t stroke = 16000 - 3 * i;
+static void make_comb(line *l, int64_t height) {
+    for (int64_t i = 0; i < POINTS; i++) {
+        int64_t stroke = 16000 - 3 * i;
         l->points[2 * i] = i - 2048;
         l->points[2 * i + 1] = height + (i % 2 == 0 ? stroke : -stroke);
     }
 }
 
 /* The same from its other end: every split is next to the last point. */
-static void make_comb_back(line *l, int32_t height) {
+static void make_comb_back(line *l, int64_t height) {
     line *forth = malloc(sizeof *forth);
     if (forth == NULL) {
         exit(1);
     }
     make_comb(forth, height);
     for (size_t i = 0; i < POINTS; i++) {
-        memcpy(&l->points[2 * i], &forth->points[2 * (SEGMENTS - i)], 2 * sizeof(int32_t));
+        memcpy(&l->points[2 * i], &forth->points[2 * (SEGMENTS - i)], 2 * sizeof(int64_t));
     }
     free(forth);
 }
 
 /* A line that ends where it begins. */
 static void close_ring(line *l) {
-    memcpy(&l->points[2 * SEGMENTS], l->points, 2 * sizeof(int32_t));
+    memcpy(&l->points[2 * SEGMENTS], l->points, 2 * sizeof(int64_t));
 }
 
 /* A ring as flat as the sheet allows, along the bottom and back. */
-static void make_flat_ring(line *l, int32_t height) {
-    for (int32_t i = 0; i < SEGMENTS; i++) {
+static void make_flat_ring(line *l, int64_t height) {
+    for (int64_t i = 0; i < SEGMENTS; i++) {
         int back = i >= SEGMENTS / 2;
         l->points[2 * i] = back ? SEGMENTS - 1 - i : i;
-        l->points[2 * i + 1] = -16000 + height + back;
+        l->points[2 * i + 1] = -KNEUKELBOOM_SHEET + height + back;
     }
     close_ring(l);
 }
 
 /* Rows that dismiss nothing, good by every rule, with every split next to the last point: no walk can go deeper. */
 static void make_table_without_end(line *l) {
-    const int32_t sheet = KNEUKELBOOM_SHEET;
-    for (int32_t r = 0; r < 2 * SEGMENTS - 1; r++) {
+    const int64_t sheet = KNEUKELBOOM_SHEET;
+    for (int64_t r = 0; r < 2 * SEGMENTS - 1; r++) {
         int leaf = r >= SEGMENTS - 1;
-        int32_t first = leaf ? r - (SEGMENTS - 1) : 0;
-        int32_t last = leaf ? first + 1 : SEGMENTS - r;
-        const int32_t row[KNEUKELBOOM_ROW_WIDTH] = {first,     last,      leaf ? -1 : last - 1, INT32_MIN,
-                                                    INT32_MAX, INT32_MIN, INT32_MAX,            -sheet,
+        int64_t first = leaf ? r - (SEGMENTS - 1) : 0;
+        int64_t last = leaf ? first + 1 : SEGMENTS - r;
+        const int64_t row[KNEUKELBOOM_ROW_WIDTH] = {first,     last,      leaf ? -1 : last - 1, INT64_MIN,
+                                                    INT64_MAX, INT64_MIN, INT64_MAX,            -sheet,
                                                     sheet,     -sheet,    sheet};
         memcpy(&l->table[r * KNEUKELBOOM_ROW_WIDTH], row, sizeof row);
     }
@@ -91,9 +94,9 @@ static void make_table_without_end(line *l) {
 
 /* ---- levels */
 
-/* The levels of calls from a row on. A walk goes to a right half in place of its node, building calls itself for both. */
+/* The levels of calls from a row on. A walk goes to a right half in place of its node, a build calls itself twice. */
 static size_t levels_from(const line *l, size_t row, int walks) {
-    const int32_t *r = &l->table[row * KNEUKELBOOM_ROW_WIDTH];
+    const int64_t *r = &l->table[row * KNEUKELBOOM_ROW_WIDTH];
     if (r[2] < 0) {
         return 1;
     }
@@ -102,8 +105,11 @@ static size_t levels_from(const line *l, size_t row, int walks) {
     return left > right ? left : right;
 }
 
-/* A pair is halved once for each half of its nodes. */
+/* A pair is halved once for each half of its nodes; to widen is one loop. */
 static size_t levels_of(const question *q) {
+    if (q->call == WIDEN) {
+        return 1;
+    }
     size_t a = levels_from(q->a, 0, q->call != BUILD);
     size_t b = q->b == NULL ? 0 : levels_from(q->b, 0, 1);
     if (q->call == MEET) {
@@ -125,6 +131,9 @@ static void *ask(void *asked) {
         break;
     case BUILD:
         q->reply = kneukelboom_build(a->points, NUMBERS, a->table, TABLE_NUMBERS);
+        break;
+    case WIDEN:
+        q->reply = kneukelboom_widen(old, NUMBERS, a->points, NUMBERS);
         break;
     case NEAR:
         q->reply = kneukelboom_near(a->points, NUMBERS, a->table, TABLE_NUMBERS, x, y, 0, ALLOWANCE);
@@ -170,6 +179,8 @@ static size_t bound_of(const question *q) {
     switch (q->call) {
     case BUILD:
         return KNEUKELBOOM_STACK_BUILD(SEGMENTS);
+    case WIDEN:
+        return KNEUKELBOOM_STACK_BUILD(0);
     case NEAR:
     case INSIDE:
     case AGREE:
@@ -201,6 +212,7 @@ int main(void) {
     static line a, b;
     const question build = {BUILD, &a, NULL, {0, 0, 0, 0, 0}};
     const question build_b = {BUILD, &b, NULL, {0, 0, 0, 0, 0}};
+    const question widen = {WIDEN, &a, NULL, {0, 0, 0, 0, 0}};
     const question near = {NEAR, &a, NULL, {0, 0, 0, 0, 0}};
     const question inside = {INSIDE, &a, NULL, {0, 0, 0, 0, 0}};
     const question meet = {MEET, &a, &b, {0, 0, 0, 0, 0}};
@@ -236,5 +248,6 @@ int main(void) {
     measure("meet, rows by hand", meet, KNEUKELBOOM_UNDECIDED);
     b = a;
     measure("agree, rows by hand", agree, KNEUKELBOOM_UNDECIDED);
+    measure("widen, points", widen, KNEUKELBOOM_BUILT);
     return failures == 0 ? 0 : 1;
 }

@@ -8,14 +8,16 @@
  *
  * Promises
  *   1. Every call takes every input and ends. Bad input gets its numbered refusal, by a fixed order of checks. A
- *      refused build leaves the table as it was; numbers of the table past its rows stay unchanged; a question writes
- *      nothing.
+ *      refused build or widening leaves what was lent to it as it was; numbers past those that it writes stay
+ *      unchanged; a question writes nothing.
  *   2. For a table that kneukelboom_build wrote for these points, each answer is the one that plain geometry gives over
  *      all the original segments.
  *   3. Once one allowance brings an answer or a refusal, every larger one brings the same after the same number of
  *      visits.
- * Of such a table promises 2 and 3 are the theorems near-built, meet-built, in-built and agree-built; 3 holds of any
- * table.
+ *   4. A table that version 1 built, widened, is number by number the one that this version builds for the widened
+ *      points.
+ * Of a table as in 2, promises 2 and 3 are the theorems near-built, meet-built, in-built and agree-built; 3 holds of
+ * any table. Promise 4 is the theorem widened-built.
  *
  * A table from elsewhere is answered too, but only a sound one (good rows, strips and boxes that hold their points) as
  * in 2: where the strips or boxes of good-looking rows leave points out, a no or an outside can be false. Nothing here
@@ -33,12 +35,13 @@
  * What the caller owes, as for any C function that takes arrays
  *   - A pointer leads to at least as many numbers as the length after it says. It may be null only where that length is
  *     0.
- *   - Nobody writes points or tables during a call, and the table of a build overlaps no part of the points.
+ *   - Nobody writes points or tables during a call, and what a build or a widening writes overlaps no part of what it
+ *     reads.
  *
  * Example: is (4,5) within 2 units of the line (0,0) (4,3) (8,0)?
  *
- *     const int32_t points[6] = {0, 0, 4, 3, 8, 0};
- *     int32_t table[KNEUKELBOOM_TABLE_LEN(6)];
+ *     const int64_t points[6] = {0, 0, 4, 3, 8, 0};
+ *     int64_t table[KNEUKELBOOM_TABLE_LEN(6)];
  *     kneukelboom_reply reply = kneukelboom_build(points, 6, table, KNEUKELBOOM_TABLE_LEN(6));
  *     if (reply.word == KNEUKELBOOM_BUILT)
  *         reply = kneukelboom_near(points, 6, table, KNEUKELBOOM_TABLE_LEN(6), 4, 5, 2, 10);
@@ -62,21 +65,25 @@ extern "C" {
  * The version of this interface. The symbol of each call ends in it, so that this header with an archive of another
  * version fails to link, instead of reading other rows. It rises when rows, limits, replies or calls change so that a
  * program compiled before would read something else; what is only added leaves it as it is.
+ *
+ * A program of version 1, whose points and tables were int32_t and whose sheet was -16,383 to 16,383, moves to version
+ * 2 by making them int64_t. Those that it has stored it widens by kneukelboom_widen: no table has to be built again.
  */
-#define KNEUKELBOOM_VERSION 1
+#define KNEUKELBOOM_VERSION 2
 #define KNEUKELBOOM_PASTED(call, version) call##version
 #define KNEUKELBOOM_SYMBOL(call, version) KNEUKELBOOM_PASTED(call, version)
 #define kneukelboom_build KNEUKELBOOM_SYMBOL(kneukelboom_build_v, KNEUKELBOOM_VERSION)
+#define kneukelboom_widen KNEUKELBOOM_SYMBOL(kneukelboom_widen_v, KNEUKELBOOM_VERSION)
 #define kneukelboom_near KNEUKELBOOM_SYMBOL(kneukelboom_near_v, KNEUKELBOOM_VERSION)
 #define kneukelboom_inside KNEUKELBOOM_SYMBOL(kneukelboom_inside_v, KNEUKELBOOM_VERSION)
 #define kneukelboom_meet KNEUKELBOOM_SYMBOL(kneukelboom_meet_v, KNEUKELBOOM_VERSION)
 #define kneukelboom_agree KNEUKELBOOM_SYMBOL(kneukelboom_agree_v, KNEUKELBOOM_VERSION)
 
-/* Sizes: points of a line, coordinates -16,383 to 16,383, distance 0 to 32,767. */
+/* Sizes: points of a line, coordinates -1,000,000 to 1,000,000, distance 0 to 2,000,000. */
 #define KNEUKELBOOM_FEWEST_POINTS 2
 #define KNEUKELBOOM_MOST_POINTS 4097
-#define KNEUKELBOOM_SHEET 16383
-#define KNEUKELBOOM_FARTHEST 32767
+#define KNEUKELBOOM_SHEET 1000000
+#define KNEUKELBOOM_FARTHEST 2000000
 
 /* How many numbers a row of a table has, and the table of a line: 2n-1 rows for n segments. The line's length counts
  * numbers, two for a point. */
@@ -84,18 +91,18 @@ extern "C" {
 #define KNEUKELBOOM_TABLE_LEN(points_len) ((points_len) < 4 ? 0 : KNEUKELBOOM_ROW_WIDTH * ((points_len) - 3))
 
 /*
- * The bytes of stack that a call takes at its deepest, for lines of so many segments: n for build; n for near and
- * inside, the greater of n and m for agree; n + m for meet. A built tree is that deep only where each of its splits
- * lies next to an end. Not proved: examples/stack.c measures it, on lines of 4,097 points (build 393,392 bytes, near
- * 655,416, inside 655,408, agree 655,576, meet 1,179,720), and fails where that is more than is said here.
+ * The bytes of stack that a call takes at its deepest, for lines of so many segments: n for build, 0 for widen; n for
+ * near and inside, the greater of n and m for agree; n + m for meet. A built tree is that deep only where each of its
+ * splits lies next to an end. Not proved: examples/stack.c measures it, on lines of 4,097 points (build 393,416 bytes,
+ * near 655,424, inside 786,480, agree 655,568, meet 1,179,752), and fails where that is more than is said here.
  */
 #define KNEUKELBOOM_STACK_BUILD(segments) (256 + 96 * (segments))
-#define KNEUKELBOOM_STACK_WALK(segments) (256 + 160 * (segments))
+#define KNEUKELBOOM_STACK_WALK(segments) (256 + 192 * (segments))
 #define KNEUKELBOOM_STACK_MEET(segments) (256 + 144 * (segments))
 
 /* What a reply says: `word`. */
 enum {
-    KNEUKELBOOM_BUILT = 0,     /* build: the table is written */
+    KNEUKELBOOM_BUILT = 0,     /* build: the table is written; widen: the numbers are */
     KNEUKELBOOM_YES = 1,       /* near, meet, agree */
     KNEUKELBOOM_NO = 2,        /* near, meet, agree */
     KNEUKELBOOM_INSIDE = 3,    /* inside */
@@ -113,10 +120,10 @@ enum {
 };
 
 /*
- * Why a call was refused: `number`. Checked in this order: a build 1 to 6; a question 1, 2, 3, 6 (A wholly, then B),
- * then 7, 8 (in agree as each point comes up), 9, then 10 as it walks. Points and rows are counted from 0; the
- * place is 0 where none is named here. The line is the one whose points or table are at fault: A where a call has one
- * line; 7, and 8 outside agree, have none. (12 and 13 are the question program's own.)
+ * Why a call was refused: `number`. Checked in this order: a build 1 to 6; widen 6 alone; a question 1, 2, 3, 6 (A
+ * wholly, then B), then 7, 8 (in agree as each point comes up), 9, then 10 as it walks. Points and rows are counted
+ * from 0; the place is 0 where none is named here. The line is the one whose points or table are at fault: A where a
+ * call has one line; widen's 6, 7, and 8 outside agree, have none. (12 and 13 are the question program's own.)
  */
 enum {
     KNEUKELBOOM_REFUSED_ODD_LENGTH = 1,       /* odd length of a points array */
@@ -124,8 +131,8 @@ enum {
     KNEUKELBOOM_REFUSED_TOO_MANY_POINTS = 3,  /* more than 4,097 points */
     KNEUKELBOOM_REFUSED_POINT_OFF_SHEET = 4,  /* build: a coordinate off the sheet; place: the lowest such point */
     KNEUKELBOOM_REFUSED_EQUAL_NEIGHBOURS = 5, /* build: two neighbours equal (after all of 4); place: the lower point */
-    KNEUKELBOOM_REFUSED_SHORT_TABLE = 6,      /* table shorter than 11 * (2n-1) */
-    KNEUKELBOOM_REFUSED_DISTANCE = 7,         /* distance outside 0 to 32,767 */
+    KNEUKELBOOM_REFUSED_SHORT_TABLE = 6,      /* table shorter than 11 * (2n-1); widen: fewer numbers lent than old */
+    KNEUKELBOOM_REFUSED_DISTANCE = 7,         /* distance outside 0 to 2,000,000 */
     KNEUKELBOOM_REFUSED_ASKED_OFF_SHEET = 8,  /* asked point off the sheet; place: in agree the point's index, else 0 */
     KNEUKELBOOM_REFUSED_NO_RING = 9,          /* inside: fewer than 4 points, or first and last differ */
     KNEUKELBOOM_REFUSED_BAD_ROW = 10          /* a row that was read at a visit is bad: the table is not this line's;
@@ -140,8 +147,9 @@ static inline const char *kneukelboom_sentence(uint32_t number) {
     case KNEUKELBOOM_REFUSED_TOO_MANY_POINTS: return "the line has more than 4,097 points";
     case KNEUKELBOOM_REFUSED_POINT_OFF_SHEET: return "a point of the line is off the sheet";
     case KNEUKELBOOM_REFUSED_EQUAL_NEIGHBOURS: return "two neighbouring points of the line are equal";
-    case KNEUKELBOOM_REFUSED_SHORT_TABLE: return "the table of the line is too short for its points";
-    case KNEUKELBOOM_REFUSED_DISTANCE: return "the distance is not from 0 to 32,767";
+    case KNEUKELBOOM_REFUSED_SHORT_TABLE:
+        return "the table of the line is too short for its points, or the list to widen into is too short";
+    case KNEUKELBOOM_REFUSED_DISTANCE: return "the distance is not from 0 to 2,000,000";
     case KNEUKELBOOM_REFUSED_ASKED_OFF_SHEET: return "the asked point is off the sheet";
     case KNEUKELBOOM_REFUSED_NO_RING:
         return "the line is no ring: it has fewer than 4 points, or does not end where it begins";
@@ -172,29 +180,36 @@ typedef struct kneukelboom_reply {
  * Writes the table of a line: built, or refused and nothing is written. Past the checks, each point is read once for
  * each node that covers it (not proved: examples/reads.c counts).
  */
-kneukelboom_reply kneukelboom_build(const int32_t *points, size_t points_len, int32_t *table, size_t table_len);
+kneukelboom_reply kneukelboom_build(const int64_t *points, size_t points_len, int64_t *table, size_t table_len);
+
+/*
+ * Writes each of the old numbers, points or a table as version 1 had them, to the front of the wide ones: built, or
+ * refused 6 and nothing is written, where fewer wide numbers are lent. Any lengths and any numbers; wide numbers past
+ * the old ones stay unchanged.
+ */
+kneukelboom_reply kneukelboom_widen(const int32_t *old, size_t old_len, int64_t *wide, size_t wide_len);
 
 /* Is (x,y) within the distance of some segment of the line? Exactly that far is within. Yes, no, undecided, refused. */
-kneukelboom_reply kneukelboom_near(const int32_t *points, size_t points_len, const int32_t *table, size_t table_len,
+kneukelboom_reply kneukelboom_near(const int64_t *points, size_t points_len, const int64_t *table, size_t table_len,
                                    int64_t x, int64_t y, int64_t distance, uint32_t allowance);
 
 /* On which side of a ring is (x,y)? Inside, outside, on, undecided, refused. Where it crosses itself, inside is odd. */
-kneukelboom_reply kneukelboom_inside(const int32_t *points, size_t points_len, const int32_t *table, size_t table_len,
+kneukelboom_reply kneukelboom_inside(const int64_t *points, size_t points_len, const int64_t *table, size_t table_len,
                                      int64_t x, int64_t y, uint32_t allowance);
 
 /* Do two lines share a point, ends, touches and overlaps included? Yes, no, undecided or refused. */
-kneukelboom_reply kneukelboom_meet(const int32_t *points_a, size_t points_a_len, const int32_t *table_a,
-                                   size_t table_a_len, const int32_t *points_b, size_t points_b_len,
-                                   const int32_t *table_b, size_t table_b_len,
+kneukelboom_reply kneukelboom_meet(const int64_t *points_a, size_t points_a_len, const int64_t *table_a,
+                                   size_t table_a_len, const int64_t *points_b, size_t points_b_len,
+                                   const int64_t *table_b, size_t table_b_len,
                                    uint32_t allowance);
 
 /*
  * Is each point of A within the distance of B, and each point of B within it of A? Yes, no, undecided or refused. A no
  * names the first point that is not: A's points are asked in order, then B's.
  */
-kneukelboom_reply kneukelboom_agree(const int32_t *points_a, size_t points_a_len, const int32_t *table_a,
-                                    size_t table_a_len, const int32_t *points_b, size_t points_b_len,
-                                    const int32_t *table_b, size_t table_b_len,
+kneukelboom_reply kneukelboom_agree(const int64_t *points_a, size_t points_a_len, const int64_t *table_a,
+                                    size_t table_a_len, const int64_t *points_b, size_t points_b_len,
+                                    const int64_t *table_b, size_t table_b_len,
                                     int64_t distance, uint32_t allowance);
 
 #ifdef __cplusplus

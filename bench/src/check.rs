@@ -1,11 +1,13 @@
-//! Every answer is held against the others: ours against the hand-written tree in all five numbers, and against the plain
-//! scan in what it says. A difference ends the run with status 1.
+//! Every answer is held against the others: ours against the hand-written tree, and on lines within the old sheet
+//! against the archive before, in all five numbers, and against the plain scan in what it says. A difference ends the
+//! run with status 1.
 
+use crate::before::Old;
 use crate::hand;
 use crate::lent;
 use crate::lent::word::{NO, REFUSED, UNDECIDED, YES};
 use crate::plain;
-use crate::shapes::{Pair, Random, Shape};
+use crate::shapes::{Drawing, Pair, Random, Sheet};
 use crate::Reply;
 use kneukelboom::{FARTHEST, SHEET};
 
@@ -18,9 +20,15 @@ fn differ(what: &str, ours: &dyn std::fmt::Debug, other: &dyn std::fmt::Debug) -
     std::process::exit(1);
 }
 
-pub fn same(what: &str, ours: Reply, hand: Reply) {
-    if ours != hand {
-        differ(&format!("{what}, by hand"), &ours, &hand);
+/// The replies of hand, of form, and of the archive before, where it was asked.
+type Others = [Option<Reply>; 3];
+
+fn same(what: &str, ours: Reply, others: Others) {
+    for (by, other) in ["hand", "form", "the archive before"].iter().zip(others) {
+        match other {
+            Some(other) if other != ours => differ(&format!("{what}, by {by}"), &ours, &other),
+            _ => {}
+        }
     }
 }
 
@@ -30,59 +38,77 @@ fn same_word(what: &str, ours: Reply, plain: u32) {
     }
 }
 
-/// A line with the table that all walk over.
+/// A line with the table that all walk over, and as the archive before takes it, where it does.
 pub struct Line {
-    pub points: Vec<i32>,
-    pub table: Vec<i32>,
+    pub points: Vec<i64>,
+    pub table: Vec<i64>,
+    pub before: Option<Old>,
 }
 
 impl Line {
-    /// Builds with all three builders, which must write the same numbers and leave what is past them.
-    pub fn built(points: Vec<i32>) -> Line {
+    /// Builds with all builders, which must write the same numbers and leave what is past them.
+    pub fn built(points: Vec<i64>) -> Line {
         const PAST: i32 = 0x5a5a_5a5a;
         let room = lent::table_len(points.len());
-        let mut tables = [(); 3].map(|()| vec![PAST; room + 5]);
+        let narrow = vec![PAST; room + 5];
+        let mut tables = [(); 3].map(|()| widened(&narrow));
+        let mut before = Old::of(&points, &narrow);
         let [ours, halves, runs] = &mut tables;
         let reply = lent::build(&points, ours);
-        same("build", reply, hand::build::<false>(&points, halves));
-        same("build by runs", reply, hand::build::<true>(&points, runs));
+        let by_hand = hand::build::<false>(&points, halves);
+        let by_form = hand::build::<true>(&points, runs);
+        let of_before = before.as_mut().map(Old::build);
+        same("build", reply, [Some(by_hand), Some(by_form), of_before]);
+        let old = before.as_ref().map(|old| widened(&old.table));
         let refused = reply.built().is_err();
-        for table in &tables {
-            if *table != tables[0] || table[room..] != [PAST; 5] || (refused && table[0] != PAST) {
+        for table in tables.iter().chain(&old) {
+            let past = table[room..] == [i64::from(PAST); 5];
+            if *table != tables[0] || !past || (refused && table[0] != i64::from(PAST)) {
                 differ("build: the table", &tables[0], table);
             }
         }
         let [mut table, ..] = tables;
         table.truncate(room);
-        Line { points, table }
+        Line {
+            points,
+            table,
+            before,
+        }
     }
 
     /// So many pairs of a kind.
-    pub fn pairs(shape: Shape, kind: Pair, n: usize, count: usize) -> Vec<(Line, Line)> {
-        let drawn = (0..count).map(|turn| shape.pair(kind, n, turn));
+    pub fn pairs(drawing: Drawing, kind: Pair, count: usize) -> Vec<(Line, Line)> {
+        let drawn = (0..count).map(|turn| drawing.pair(kind, turn));
         drawn
             .map(|(a, b)| (Line::built(a), Line::built(b)))
             .collect()
     }
 
     /// Points and table of both.
-    pub fn slices((a, b): &(Line, Line)) -> (&[i32], &[i32], &[i32], &[i32]) {
+    pub fn slices((a, b): &(Line, Line)) -> (&[i64], &[i64], &[i64], &[i64]) {
         (&a.points, &a.table, &b.points, &b.table)
     }
+
+    /// Both as the archive before takes them.
+    pub fn before((a, b): &(Line, Line)) -> Option<(&Old, &Old)> {
+        a.before.as_ref().zip(b.before.as_ref())
+    }
+}
+
+fn widened(numbers: &[i32]) -> Vec<i64> {
+    numbers.iter().copied().map(i64::from).collect()
 }
 
 /// The reply of one question under every allowance that matters, given how to ask. Gives that of the greatest.
 fn under_allowances(
     what: &str,
     ours: impl Fn(u32) -> Reply,
-    hand: impl Fn(u32) -> [Reply; 2],
+    others: impl Fn(u32) -> Others,
 ) -> Reply {
     let reply = ours(u32::MAX);
     for allowance in [u32::MAX, reply.visits, reply.visits.saturating_sub(1)] {
         let under = ours(allowance);
-        for by_hand in hand(allowance) {
-            same(what, under, by_hand);
-        }
+        same(what, under, others(allowance));
         let stopped = (under.word, under.visits) == (UNDECIDED, allowance);
         if under != reply && (allowance >= reply.visits || !stopped) {
             let what = format!("{what}, with an allowance of {allowance}");
@@ -92,62 +118,68 @@ fn under_allowances(
     reply
 }
 
-pub fn near(line: &Line, z: (i32, i32), d: i64) -> Reply {
-    let Line { points, table } = line;
-    let (x, y) = (z.0.into(), z.1.into());
+pub fn near(line: &Line, z: (i64, i64), d: i64) -> Reply {
+    let (p, t, (x, y)) = (&line.points[..], &line.table[..], z);
     let what = format!("near {z:?} within {d}");
     let reply = under_allowances(
         &what,
-        |allowance| lent::near(points, table, x, y, d, allowance),
+        |allowance| lent::near(p, t, x, y, d, allowance),
         |allowance| {
             [
-                hand::near::<false>(points, table, x, y, d, allowance),
-                hand::near::<true>(points, table, x, y, d, allowance),
+                Some(hand::near::<false>(p, t, x, y, d, allowance)),
+                Some(hand::near::<true>(p, t, x, y, d, allowance)),
+                line.before.as_ref().map(|old| old.near(z, d, allowance)),
             ]
         },
     );
-    same_word(&what, reply, plain::near(points, z, d));
+    same_word(&what, reply, plain::near(p, z, d));
     reply
 }
 
-pub fn inside(line: &Line, z: (i32, i32)) -> Reply {
-    let Line { points, table } = line;
-    let (x, y) = (z.0.into(), z.1.into());
+pub fn inside(line: &Line, z: (i64, i64)) -> Reply {
+    let (p, t, (x, y)) = (&line.points[..], &line.table[..], z);
     let what = format!("inside {z:?}");
     let reply = under_allowances(
         &what,
-        |allowance| lent::inside(points, table, x, y, allowance),
+        |allowance| lent::inside(p, t, x, y, allowance),
         |allowance| {
             [
-                hand::inside::<false>(points, table, x, y, allowance),
-                hand::inside::<true>(points, table, x, y, allowance),
+                Some(hand::inside::<false>(p, t, x, y, allowance)),
+                Some(hand::inside::<true>(p, t, x, y, allowance)),
+                line.before.as_ref().map(|old| old.inside(z, allowance)),
             ]
         },
     );
-    same_word(&what, reply, plain::inside(points, z));
+    same_word(&what, reply, plain::inside(p, z));
     reply
 }
 
-pub fn meet(a: &Line, b: &Line) -> Reply {
+pub fn meet(pair: &(Line, Line)) -> Reply {
+    let (p, t, q, u) = Line::slices(pair);
     let reply = under_allowances(
         "meet",
-        |allowance| lent::meet(&a.points, &a.table, &b.points, &b.table, allowance),
-        |allowance| [hand::meet(&a.points, &a.table, &b.points, &b.table, allowance); 2],
+        |allowance| lent::meet(p, t, q, u, allowance),
+        |allowance| {
+            let by_hand = hand::meet(p, t, q, u, allowance);
+            let of_before = Line::before(pair).map(|(a, b)| a.meet(b, allowance));
+            [Some(by_hand), None, of_before]
+        },
     );
-    same_word("meet", reply, plain::meet(&a.points, &b.points));
+    same_word("meet", reply, plain::meet(p, q));
     reply
 }
 
-pub fn agree(a: &Line, b: &Line, d: i64) -> Reply {
-    let (p, t, q, u) = (&a.points, &a.table, &b.points, &b.table);
+pub fn agree(pair: &(Line, Line), d: i64) -> Reply {
+    let (p, t, q, u) = Line::slices(pair);
     let what = format!("agree within {d}");
     let reply = under_allowances(
         &what,
         |allowance| lent::agree(p, t, q, u, d, allowance),
         |allowance| {
             [
-                hand::agree::<false>(p, t, q, u, d, allowance),
-                hand::agree::<true>(p, t, q, u, d, allowance),
+                Some(hand::agree::<false>(p, t, q, u, d, allowance)),
+                Some(hand::agree::<true>(p, t, q, u, d, allowance)),
+                Line::before(pair).map(|(a, b)| a.agree(b, d, allowance)),
             ]
         },
     );
@@ -162,76 +194,62 @@ pub fn agree(a: &Line, b: &Line, d: i64) -> Reply {
 
 // ---- damaged input
 
-/// Asks `cases` times about small random lines, most of them with damaged tables, moved points, short slices or values out of
-/// range. Ours and the hand-written tree must refuse, or answer, alike in every number. Gives how many were refused.
+/// Asks `cases` times about small random lines, most of them with damaged tables, moved points, short slices or values
+/// out of range. Ours and the hand-written tree must refuse, or answer, alike in every number. Gives how many were
+/// refused.
 pub fn damaged(cases: u64) -> u64 {
     let mut random = Random(8);
     let mut refused = 0;
     for _ in 0..cases {
-        let mut a = Line::built(wander(&mut random));
-        let mut b = Line::built(wander(&mut random));
-        for line in [&mut a, &mut b] {
+        let mut pair = [(); 2].map(|()| Line::built(wander(&mut random)));
+        for line in &mut pair {
             damage(line, &mut random);
         }
         let z = (value(&mut random), value(&mut random));
         let d = if random.between(0, 3) == 0 {
-            i64::from(value(&mut random))
+            value(&mut random)
         } else {
-            i64::from(random.between(0, 60))
+            random.between(0, 60) * random.pick(&[1, Sheet::Wide.scale(), FARTHEST / 60])
         };
         let allowance = random.pick(&[0, 1, 2, 7, 40, u32::MAX, u32::MAX]);
-        refused += ask(&a, &b, (z.0.into(), z.1.into()), d, allowance);
+        let replies = asked(&pair, z, d, allowance);
+        refused += replies.iter().filter(|reply| reply.word == REFUSED).count() as u64;
     }
     refused
 }
 
-fn ask(a: &Line, b: &Line, (x, y): (i64, i64), d: i64, allowance: u32) -> u64 {
+/// The four questions, held against the hand-written tree.
+fn asked([a, b]: &[Line; 2], (x, y): (i64, i64), d: i64, allowance: u32) -> [Reply; 4] {
     let (p, t, q, u) = (&a.points[..], &a.table[..], &b.points[..], &b.table[..]);
     let near = lent::near(p, t, x, y, d, allowance);
-    same("near", near, hand::near::<false>(p, t, x, y, d, allowance));
-    same(
-        "near by calls",
-        near,
-        hand::near::<true>(p, t, x, y, d, allowance),
-    );
+    let [hand, form] = [hand::near::<false>, hand::near::<true>];
+    let by_hand = [hand, form].map(|near| Some(near(p, t, x, y, d, allowance)));
+    same("near", near, [by_hand[0], by_hand[1], None]);
     let inside = lent::inside(p, t, x, y, allowance);
-    same(
-        "inside",
-        inside,
-        hand::inside::<false>(p, t, x, y, allowance),
-    );
-    same(
-        "inside by calls",
-        inside,
-        hand::inside::<true>(p, t, x, y, allowance),
-    );
+    let [hand, form] = [hand::inside::<false>, hand::inside::<true>];
+    let by_hand = [hand, form].map(|inside| Some(inside(p, t, x, y, allowance)));
+    same("inside", inside, [by_hand[0], by_hand[1], None]);
     let meet = lent::meet(p, t, q, u, allowance);
-    same("meet", meet, hand::meet(p, t, q, u, allowance));
+    let by_hand = hand::meet(p, t, q, u, allowance);
+    same("meet", meet, [Some(by_hand), None, None]);
     let agree = lent::agree(p, t, q, u, d, allowance);
-    same(
-        "agree",
-        agree,
-        hand::agree::<false>(p, t, q, u, d, allowance),
-    );
-    same(
-        "agree by calls",
-        agree,
-        hand::agree::<true>(p, t, q, u, d, allowance),
-    );
-    let replies = [near, inside, meet, agree];
-    replies.iter().filter(|reply| reply.word == REFUSED).count() as u64
+    let [hand, form] = [hand::agree::<false>, hand::agree::<true>];
+    let by_hand = [hand, form].map(|agree| Some(agree(p, t, q, u, d, allowance)));
+    same("agree", agree, [by_hand[0], by_hand[1], None]);
+    [near, inside, meet, agree]
 }
 
 /// A short line; now and then one that cannot be built, or a ring.
-fn wander(random: &mut Random) -> Vec<i32> {
+fn wander(random: &mut Random) -> Vec<i64> {
+    const OFF: [i64; 5] = [SHEET + 1, -SHEET - 1, 1 << 32, i64::MIN, i64::MAX];
     let count = random.between(0, 20).max(random.between(0, 5));
-    let reach = random.pick(&[3, 30, SHEET]);
-    let mut points: Vec<i32> = Vec::new();
+    let reach = random.pick(&[3, 30, Sheet::Old.limit(), SHEET]);
+    let mut points: Vec<i64> = Vec::new();
     for _ in 0..count {
         points.extend([random.between(-reach, reach), random.between(-reach, reach)]);
     }
     match random.between(0, 11) {
-        0 => points.extend([random.pick(&[SHEET + 1, -SHEET - 1, i32::MIN, i32::MAX]), 0]),
+        0 => points.extend([random.pick(&OFF), 0]),
         1 => points.push(0),
         2..=6 if count > 2 => points.extend([points[0], points[1]]),
         _ => {}
@@ -243,19 +261,21 @@ fn damage(line: &mut Line, random: &mut Random) {
     if random.between(0, 2) > 0 && !line.table.is_empty() {
         for _ in 0..random.between(1, 3) {
             // Mostly the first rows: those are read.
-            let at = random.between(0, line.table.len() as i32 - 1) as usize;
+            let at = random.between(0, line.table.len() as i64 - 1) as usize;
             let at = if random.between(0, 1) == 0 {
                 at % 33 % line.table.len()
             } else {
                 at
             };
-            let one_off = line.table[at].wrapping_add(random.pick(&[1, -1]));
+            // One off, or the same in its low 32 bits.
+            let off = random.pick(&[1, -1, 1 << 32, i64::MIN]);
+            let moved = line.table[at].wrapping_add(off);
             let other = value(random);
-            line.table[at] = random.pick(&[one_off, other, 0, -1]);
+            line.table[at] = random.pick(&[moved, other, 0, -1]);
         }
     }
     if random.between(0, 7) == 0 && !line.points.is_empty() {
-        let at = random.between(0, line.points.len() as i32 - 1) as usize;
+        let at = random.between(0, line.points.len() as i64 - 1) as usize;
         line.points[at] = value(random);
     }
     if random.between(0, 15) == 0 {
@@ -267,20 +287,22 @@ fn damage(line: &mut Line, random: &mut Random) {
 }
 
 /// A number with a liking for the limits.
-fn value(random: &mut Random) -> i32 {
-    let limits = [
+fn value(random: &mut Random) -> i64 {
+    const LIMITS: [i64; 8] = [
         SHEET,
         -SHEET,
         SHEET + 1,
         -SHEET - 1,
         FARTHEST,
         FARTHEST + 1,
-        i32::MIN,
-        i32::MAX,
+        i64::MIN,
+        i64::MAX,
     ];
-    match random.between(0, 7) {
-        0 => random.pick(&limits),
+    let small = random.between(-30, 30);
+    match random.between(0, 8) {
+        0 => random.pick(&LIMITS),
         1 => random.between(-SHEET, SHEET),
-        _ => random.between(-30, 30),
+        2 => small + (random.between(-8, 8) << 32),
+        _ => small,
     }
 }

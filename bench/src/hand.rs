@@ -2,13 +2,15 @@
 //!
 //! Same table rows, same walk, same visits, same row check at every visit, same refusals in the same
 //! order as in the rules, and so the same reply to every call, damaged tables included. It uses what a
-//! careful Rust programmer would: raw reads where a length was checked before, 32-bit arithmetic where
-//! the ranges allow it, a stack of pending ends in place of calls. Nothing is proved here; `main.rs`
-//! holds every reply against the proved library and against the plain scan.
+//! careful Rust programmer would: raw reads where a length was checked before, 64-bit arithmetic where
+//! the ranges allow it and 128-bit products where not, a stack of pending ends in place of calls.
+//! Nothing is proved here; `main.rs` holds every reply against the proved library and against the
+//! plain scan.
 //!
-//! Why 32 bits suffice: on the sheet |c| and |t| are at most |u| * |z - s| <= 2 * 32,766^2 =
-//! 2,147,221,512 < 2^31, and so is each of their two products. A good row has cmin, tmin <= 0 <=
-//! cmax, tmax, so a shortfall is at most |c| or |t|, whatever else the row holds.
+//! Why 64 bits suffice but for squares: on the sheet |c|, |t| and |u|^2 are at most 2 * 2,000,000^2 =
+//! 8 * 10^12 < 2^43, and so is each of their two products. A good row has cmin, tmin <= 0 <= cmax,
+//! tmax, so a shortfall is at most |c| or |t|, whatever else the row holds. The squares of both, and
+//! d^2 * |u|^2, reach 2^86: they are compared in 128 bits.
 //!
 //! Some come in two ways, chosen by `FORM`. False is the faster one. True has the form that is
 //! asked of the proved code: a walk calls itself on both halves, in place of a stack of its own; a
@@ -20,11 +22,9 @@ use core::mem::MaybeUninit;
 use crate::lent::line::{LINE_A, LINE_B, NO_LINE};
 use crate::lent::word::{BUILT, INSIDE, NO, ON, OUTSIDE, REFUSED, UNDECIDED, YES};
 use crate::Reply;
-use kneukelboom::{MOST_POINTS, ROW_WIDTH as ROW, SHEET};
+use kneukelboom::{FARTHEST, MOST_POINTS, ROW_WIDTH as ROW, SHEET};
 
-const FARTHEST: i64 = kneukelboom::FARTHEST as i64;
-
-type Point = (i32, i32);
+type Point = (i64, i64);
 
 #[inline(always)]
 fn says(word: u32, visits: u32) -> Reply {
@@ -51,19 +51,18 @@ fn refused(number: u32, line: u32, place: u64, visits: u32) -> Reply {
 // ---- what is checked before a walk
 
 #[inline(always)]
-fn in_sheet(v: i32) -> bool {
+fn in_sheet(v: i64) -> bool {
     (-SHEET..=SHEET).contains(&v)
 }
 
 #[inline(always)]
 fn asked_on_sheet(x: i64, y: i64) -> bool {
-    let sheet = -i64::from(SHEET)..=i64::from(SHEET);
-    sheet.contains(&x) && sheet.contains(&y)
+    in_sheet(x) && in_sheet(y)
 }
 
 /// Refusals 1, 2 and 3, or the number of segments.
 #[inline(always)]
-fn segments(points: &[i32], line: u32) -> Result<usize, Reply> {
+fn segments(points: &[i64], line: u32) -> Result<usize, Reply> {
     let count = points.len() / 2;
     if points.len() % 2 == 1 {
         return Err(refused(1, line, 0, 0));
@@ -80,15 +79,15 @@ fn segments(points: &[i32], line: u32) -> Result<usize, Reply> {
 /// A line and its table whose lengths were checked: points 0 to n and rows 0 to 2n-2 may be read.
 #[derive(Clone, Copy)]
 struct Tree {
-    points: *const i32,
-    table: *const i32,
+    points: *const i64,
+    table: *const i64,
     n: usize,
     line: u32,
 }
 
 /// Refusals 1, 2, 3 and 6.
 #[inline(always)]
-fn tree(points: &[i32], table: &[i32], line: u32) -> Result<Tree, Reply> {
+fn tree(points: &[i64], table: &[i64], line: u32) -> Result<Tree, Reply> {
     let n = segments(points, line)?;
     if table.len() < ROW * (2 * n - 1) {
         return Err(refused(6, line, 0, 0));
@@ -103,10 +102,10 @@ fn tree(points: &[i32], table: &[i32], line: u32) -> Result<Tree, Reply> {
 
 #[inline(always)]
 fn two_trees(
-    points_a: &[i32],
-    table_a: &[i32],
-    points_b: &[i32],
-    table_b: &[i32],
+    points_a: &[i64],
+    table_a: &[i64],
+    points_b: &[i64],
+    table_b: &[i64],
 ) -> Result<(Tree, Tree), Reply> {
     Ok((
         tree(points_a, table_a, LINE_A)?,
@@ -119,7 +118,7 @@ fn two_trees(
 /// A node that is due: its row and the range handed down.
 #[derive(Clone, Copy)]
 struct Node {
-    row: *const i32,
+    row: *const i64,
     first: usize,
     last: usize,
 }
@@ -166,10 +165,10 @@ impl Node {
 /// A good row, with the chord from its first point to its last.
 struct Seen {
     split: usize,
-    c: (i32, i32),
-    t: (i32, i32),
-    x: (i32, i32),
-    y: (i32, i32),
+    c: (i64, i64),
+    t: (i64, i64),
+    x: (i64, i64),
+    y: (i64, i64),
     from: Point,
     to: Point,
 }
@@ -193,7 +192,7 @@ impl Tree {
     /// The row of a node as a number, for a refusal.
     #[cold]
     fn row_of(&self, node: Node) -> usize {
-        (node.row as usize - self.table as usize) / (ROW * size_of::<i32>())
+        (node.row as usize - self.table as usize) / (ROW * size_of::<i64>())
     }
 
     /// Reads a node's row; none where it is bad.
@@ -203,7 +202,7 @@ impl Tree {
     #[inline(always)]
     unsafe fn see(&self, node: Node) -> Option<Seen> {
         let at = |k: usize| *node.row.add(k);
-        let (first, last) = (node.first as i32, node.last as i32);
+        let (first, last) = (node.first as i64, node.last as i64);
         let seen = Seen {
             split: at(2) as usize,
             c: (at(3), at(4)),
@@ -258,20 +257,26 @@ impl Axes {
     }
 
     #[inline(always)]
-    fn c(&self, (x, y): Point) -> i32 {
+    fn c(&self, (x, y): Point) -> i64 {
         self.u.0 * (y - self.s.1) - self.u.1 * (x - self.s.0)
     }
 
     #[inline(always)]
-    fn t(&self, (x, y): Point) -> i32 {
+    fn t(&self, (x, y): Point) -> i64 {
         self.u.0 * (x - self.s.0) + self.u.1 * (y - self.s.1)
     }
 
     /// |u|^2
     #[inline(always)]
     fn square(&self) -> i64 {
-        i64::from(self.u.0 * self.u.0 + self.u.1 * self.u.1)
+        self.u.0 * self.u.0 + self.u.1 * self.u.1
     }
+}
+
+/// As squares are compared: exact.
+#[inline(always)]
+fn product(a: i64, b: i64) -> i128 {
+    i128::from(a) * i128::from(b)
 }
 
 /// The ends of the right halves that are still due, nearest last: where each begins, and its row,
@@ -345,18 +350,27 @@ impl Asked {
     fn near_visit(&self, node: Node, seen: Seen) -> Visit {
         let (z, d2) = (self.z, self.d2);
         let axes = Axes::of(seen.from, seen.to);
-        let (c, t) = (i64::from(axes.c(z)), i64::from(axes.t(z)));
-        let u2 = axes.square();
-        let shortfall = |(lo, hi): Point, v: i64| (i64::from(lo) - v).max(v - i64::from(hi)).max(0);
+        let (c, t, u2) = (axes.c(z), axes.t(z), axes.square());
+        // Compared first and then subtracted: 0 lies between lo and hi, so nothing wraps.
+        let shortfall = |(lo, hi): Point, v: i64| {
+            if v < lo {
+                lo - v
+            } else if hi < v {
+                v - hi
+            } else {
+                0
+            }
+        };
         let (gc, gt) = (shortfall(seen.c, c), shortfall(seen.t, t));
-        if gc * gc + gt * gt > d2 * u2 {
+        let reach = product(d2, u2);
+        if product(gc, gc) + product(gt, gt) > reach {
             return Visit::Pass { crosses: false };
         }
         if node.size() > 1 {
             return Visit::Open { split: seen.split };
         }
         let end_within = |p: Point| {
-            let (dx, dy) = (i64::from(z.0 - p.0), i64::from(z.1 - p.1));
+            let (dx, dy) = (z.0 - p.0, z.1 - p.1);
             dx * dx + dy * dy <= d2
         };
         let within = if t <= 0 {
@@ -364,7 +378,7 @@ impl Asked {
         } else if t >= u2 {
             end_within(seen.to)
         } else {
-            c * c <= d2 * u2
+            product(c, c) <= reach
         };
         if within {
             Visit::End
@@ -377,7 +391,7 @@ impl Asked {
     fn in_visit(&self, node: Node, seen: Seen) -> Visit {
         let z = self.z;
         let axes = Axes::of(seen.from, seen.to);
-        let outside = |(lo, hi): Point, v: i32| v < lo || hi < v;
+        let outside = |(lo, hi): Point, v: i64| v < lo || hi < v;
         let clear = outside(seen.x, z.0)
             || outside(seen.y, z.1)
             || outside(seen.c, axes.c(z))
@@ -439,7 +453,7 @@ impl Asked {
     /// SAFETY: as for `see`.
     unsafe fn by_calls<const IN: bool>(
         &self,
-        row: *const i32,
+        row: *const i64,
         first: usize,
         last: usize,
         mut visits: u32,
@@ -494,8 +508,8 @@ impl Asked {
 
 #[inline(never)]
 pub fn near<const FORM: bool>(
-    points: &[i32],
-    table: &[i32],
+    points: &[i64],
+    table: &[i64],
     x: i64,
     y: i64,
     distance: i64,
@@ -513,7 +527,7 @@ pub fn near<const FORM: bool>(
     }
     let asked = Asked {
         tree,
-        z: (x as i32, y as i32),
+        z: (x, y),
         d2: distance * distance,
         allowance,
     };
@@ -532,22 +546,21 @@ fn crosses(z: Point, from: Point, to: Point) -> bool {
     } else {
         (to, from)
     };
-    let wide = i64::from;
     low.1 <= z.1
         && z.1 < high.1
-        && wide(high.0 - low.0) * wide(z.1 - low.1) > wide(z.0 - low.0) * wide(high.1 - low.1)
+        && (high.0 - low.0) * (z.1 - low.1) > (z.0 - low.0) * (high.1 - low.1)
 }
 
 #[inline(always)]
 fn on_segment(z: Point, from: Point, to: Point) -> bool {
-    let holds = |a: i32, b: i32, v: i32| a.min(b) <= v && v <= a.max(b);
+    let holds = |a: i64, b: i64, v: i64| a.min(b) <= v && v <= a.max(b);
     holds(from.0, to.0, z.0) && holds(from.1, to.1, z.1) && Axes::of(from, to).c(z) == 0
 }
 
 #[inline(never)]
 pub fn inside<const FORM: bool>(
-    points: &[i32],
-    table: &[i32],
+    points: &[i64],
+    table: &[i64],
     x: i64,
     y: i64,
     allowance: u32,
@@ -565,7 +578,7 @@ pub fn inside<const FORM: bool>(
     }
     let asked = Asked {
         tree,
-        z: (x as i32, y as i32),
+        z: (x, y),
         d2: 0,
         allowance,
     };
@@ -578,10 +591,10 @@ pub fn inside<const FORM: bool>(
 
 #[inline(never)]
 pub fn agree<const FORM: bool>(
-    points_a: &[i32],
-    table_a: &[i32],
-    points_b: &[i32],
-    table_b: &[i32],
+    points_a: &[i64],
+    table_a: &[i64],
+    points_b: &[i64],
+    table_b: &[i64],
     distance: i64,
     allowance: u32,
 ) -> Reply {
@@ -629,7 +642,7 @@ pub fn agree<const FORM: bool>(
 /// those of the two parts together.
 #[inline(always)]
 fn misses(of: &Seen, other: &Seen) -> bool {
-    let sorted = |a: i32, b: i32| (a.min(b), a.max(b));
+    let sorted = |a: i64, b: i64| (a.min(b), a.max(b));
     let axes = Axes::of(of.from, of.to);
     let (dx, dy) = axes.u;
     let (x0, x1) = (other.x.0 - axes.s.0, other.x.1 - axes.s.0);
@@ -645,8 +658,8 @@ fn misses(of: &Seen, other: &Seen) -> bool {
 /// Whether two segments share a point.
 #[inline(always)]
 fn share(a: Point, b: Point, c: Point, d: Point) -> bool {
-    let overlap = |a: i32, b: i32, c: i32, d: i32| a.min(b) <= c.max(d) && c.min(d) <= a.max(b);
-    let one_side = |p: i32, q: i32| (p > 0 && q > 0) || (p < 0 && q < 0);
+    let overlap = |a: i64, b: i64, c: i64, d: i64| a.min(b) <= c.max(d) && c.min(d) <= a.max(b);
+    let one_side = |p: i64, q: i64| (p > 0 && q > 0) || (p < 0 && q < 0);
     let (ab, cd) = (Axes::of(a, b), Axes::of(c, d));
     overlap(a.0, b.0, c.0, d.0)
         && overlap(a.1, b.1, c.1, d.1)
@@ -664,7 +677,8 @@ struct Pairs {
 }
 
 impl Pairs {
-    /// The walk calls itself: a stack of pairs would be 96 kB and cost more than the calls do. It gives EVEN, ENDED, SPENT or BAD.
+    /// The walk calls itself: a stack of pairs would be 96 kB and cost more than the calls do. It gives EVEN, ENDED,
+    /// SPENT or BAD.
     ///
     /// SAFETY: as for `see`, of both nodes.
     unsafe fn walk(&mut self, mut p: Node, mut q: Node) -> u32 {
@@ -712,10 +726,10 @@ impl Pairs {
 
 #[inline(never)]
 pub fn meet(
-    points_a: &[i32],
-    table_a: &[i32],
-    points_b: &[i32],
-    table_b: &[i32],
+    points_a: &[i64],
+    table_a: &[i64],
+    points_b: &[i64],
+    table_b: &[i64],
     allowance: u32,
 ) -> Reply {
     let (a, b) = match two_trees(points_a, table_a, points_b, table_b) {
@@ -741,7 +755,7 @@ pub fn meet(
 // ---- building
 
 #[inline(never)]
-pub fn build<const FORM: bool>(points: &[i32], table: &mut [i32]) -> Reply {
+pub fn build<const FORM: bool>(points: &[i64], table: &mut [i64]) -> Reply {
     let n = match segments(points, LINE_A) {
         Ok(n) => n,
         Err(refusal) => return refusal,
@@ -764,10 +778,10 @@ pub fn build<const FORM: bool>(points: &[i32], table: &mut [i32]) -> Reply {
 /// The box of some points.
 #[derive(Clone, Copy)]
 struct Extent {
-    xmin: i32,
-    xmax: i32,
-    ymin: i32,
-    ymax: i32,
+    xmin: i64,
+    xmax: i64,
+    ymin: i64,
+    ymax: i64,
 }
 
 impl Extent {
@@ -796,8 +810,8 @@ impl Extent {
 ///
 /// SAFETY: first < last are points that may be read, and 2 * (last - first) - 1 rows may be written.
 unsafe fn grow<const FORM: bool>(
-    points: *const i32,
-    row: *mut i32,
+    points: *const i64,
+    row: *mut i64,
     first: usize,
     last: usize,
 ) -> Extent {
@@ -820,7 +834,7 @@ unsafe fn grow<const FORM: bool>(
         if c.abs() >= farthest {
             let off = (2 * i).abs_diff(first + last);
             if c.abs() > farthest || off < off_middle {
-                (split, farthest, off_middle) = (i as i32, c.abs(), off);
+                (split, farthest, off_middle) = (i as i64, c.abs(), off);
             }
         }
     }
@@ -832,9 +846,9 @@ unsafe fn grow<const FORM: bool>(
             extent = left.with(right);
         }
     }
-    row.cast::<[i32; ROW]>().write([
-        first as i32,
-        last as i32,
+    row.cast::<[i64; ROW]>().write([
+        first as i64,
+        last as i64,
         split,
         cmin,
         cmax,

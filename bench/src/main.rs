@@ -1,12 +1,14 @@
-//! The proved library beside a hand-written strip tree and a plain scan: the same questions, every answer compared, times as
-//! ratios.
+//! The proved library beside a hand-written strip tree, a plain scan, and the archive before: the same questions, every
+//! answer compared, times as ratios.
 //!
-//!     cargo run --release --offline             the whole table, under 2 minutes
-//!     cargo run --release --offline -- --quick  two sizes, few repetitions, under 15 seconds: for the gate
+//!     cargo run --release --offline             the whole table
+//!     cargo run --release --offline -- --quick  two sizes, few repetitions: for the gate
 //!
-//! `--summary` prints no table. `--bars` ends with status 1 where a bar is missed; a difference between answers always does. `--saw` asks
-//! about saws alone, the lines that a strip tree is worst at.
+//! `--summary` prints no table. `--bars` ends with status 1 where a bar is missed; a difference between answers always
+//! does. `--saw` asks about saws alone, the lines that a strip tree is worst at. The archive before is asked where
+//! KNEUKELBOOM_BEFORE_DIR named its folder when this was built.
 
+mod before;
 mod check;
 mod hand;
 mod plain;
@@ -19,21 +21,25 @@ use std::hint::black_box;
 use std::process::ExitCode;
 use std::time::Instant;
 
+use before::Old;
 use check::Line;
 use kneukelboom::lent::word::{INSIDE, ON, YES};
 pub use kneukelboom::lent::{self, Reply};
-use race::Race;
+use race::{Race, Runner, Runners};
 use report::{Question, Report, Row};
-use shapes::{Random, Shape, PAIRS, POINTS, SHAPES};
+use shapes::{Drawing, Random, Shape, Sheet, PAIRS, POINTS, SHAPES, SHEETS};
 use times::Times;
 
-const DISTANCES: [i64; 4] = [0, 8, 32, 500];
 /// Points asked about in a cell, enough that the processor does not learn them by heart.
 const ASKED: usize = 512;
 /// Pairs asked about in a cell.
 const TURNS: usize = 4;
 /// The greatest allowance: every answer is decided.
 const ENOUGH: u32 = u32::MAX;
+
+fn distances(sheet: Sheet) -> [i64; 4] {
+    [0, 8, 32, 500].map(|d| d * sheet.scale())
+}
 
 #[derive(Default)]
 struct Options {
@@ -74,6 +80,17 @@ impl Options {
             &SHAPES
         }
     }
+
+    fn drawings(&self) -> Vec<Drawing> {
+        let mut drawings = vec![];
+        for sheet in SHEETS {
+            for &n in self.sizes() {
+                let of_shape = |&shape: &Shape| Drawing { sheet, shape, n };
+                drawings.extend(self.shapes().iter().map(of_shape));
+            }
+        }
+        drawings
+    }
 }
 
 fn main() -> ExitCode {
@@ -97,17 +114,13 @@ fn main() -> ExitCode {
     let refused = check::damaged(rounds);
     println!("{rounds} rounds of damaged input: the same replies, {refused} of them refusals");
 
-    let lines = || {
-        let shapes = || options.shapes().iter();
-        let sizes = options.sizes().iter();
-        sizes.flat_map(move |&n| shapes().map(move |&shape| (shape, n)))
-    };
-    lines().for_each(|(shape, n)| bench.build(shape, n));
-    lines().for_each(|(shape, n)| bench.near(shape, n));
-    let rings = lines().filter(|&(shape, _)| shape == Shape::Ring);
-    rings.for_each(|(shape, n)| bench.inside(shape, n));
-    lines().for_each(|(shape, n)| bench.meet(shape, n));
-    lines().for_each(|(shape, n)| bench.agree(shape, n));
+    let drawings = || options.drawings().into_iter();
+    drawings().for_each(|drawing| bench.build(drawing));
+    drawings().for_each(|drawing| bench.near(drawing));
+    let rings = drawings().filter(|drawing| drawing.shape == Shape::Ring);
+    rings.for_each(|drawing| bench.inside(drawing));
+    drawings().for_each(|drawing| bench.meet(drawing));
+    drawings().for_each(|drawing| bench.agree(drawing));
 
     let met = bench.report.summary();
     println!("\n{:.1} s in all", began.elapsed().as_secs_f64());
@@ -123,132 +136,157 @@ struct Bench {
 }
 
 impl Bench {
-    fn build(&mut self, shape: Shape, n: usize) {
-        let line = Line::built(shape.alone(n));
+    fn build(&mut self, drawing: Drawing) {
+        let mut line = Line::built(drawing.alone());
         let points = || black_box(&line.points[..]);
         let [mut a, mut b, mut c] = [(); 3].map(|()| line.table.clone());
-        let times = self.race.run(
-            &mut || sum([lent::build(points(), &mut a)]),
-            &mut || sum([hand::build::<false>(points(), &mut b)]),
-            Some(&mut || sum([hand::build::<true>(points(), &mut c)])),
+        let mut old = line.before.take();
+        let mut before = old
+            .as_mut()
+            .map(|old| || sum([black_box(&mut *old).build()]));
+        let times = self.race.run(Runners {
+            ours: &mut || sum([lent::build(points(), &mut a)]),
+            before: before.as_mut().map(|run| run as Runner),
+            hand: &mut || sum([hand::build::<false>(points(), &mut b)]),
+            form: Some(&mut || sum([hand::build::<true>(points(), &mut c)])),
+            plain: None,
+        });
+        self.add(
+            Question::Build,
+            drawing,
+            "",
             None,
+            &[],
+            times.per(drawing.n),
         );
-        self.add(Question::Build, shape, "", n, None, &[], times.per(n));
     }
 
-    fn near(&mut self, shape: Shape, n: usize) {
-        let line = Line::built(shape.alone(n));
+    fn near(&mut self, drawing: Drawing) {
+        let line = Line::built(drawing.alone());
         let (p, t) = (&line.points[..], &line.table[..]);
-        let mut random = Random(n as u64);
+        let mut random = Random(drawing.n as u64);
         for kind in POINTS {
-            let asked = kind.some(p, ASKED, &mut random);
-            let each = || black_box(&asked[..]).iter();
-            let wide = || each().map(|&(x, y)| (i64::from(x), i64::from(y)));
-            for d in DISTANCES {
-                let replies: Vec<_> = each().map(|&z| check::near(&line, z, d)).collect();
-                let times = self.race.run(
-                    &mut || sum(wide().map(|(x, y)| lent::near(p, t, x, y, d, ENOUGH))),
-                    &mut || sum(wide().map(|(x, y)| hand::near::<false>(p, t, x, y, d, ENOUGH))),
-                    Some(&mut || {
-                        sum(wide().map(|(x, y)| hand::near::<true>(p, t, x, y, d, ENOUGH)))
+            let asked = kind.some(drawing.sheet, p, ASKED, &mut random);
+            let each = || black_box(&asked[..]).iter().copied();
+            for d in distances(drawing.sheet) {
+                let replies: Vec<_> = each().map(|z| check::near(&line, z, d)).collect();
+                let mut before = line
+                    .before
+                    .as_ref()
+                    .map(|old| move || sum(each().map(|z| old.near(z, d, ENOUGH))));
+                let times = self.race.run(Runners {
+                    ours: &mut || sum(each().map(|(x, y)| lent::near(p, t, x, y, d, ENOUGH))),
+                    before: before.as_mut().map(|run| run as Runner),
+                    hand: &mut || {
+                        sum(each().map(|(x, y)| hand::near::<false>(p, t, x, y, d, ENOUGH)))
+                    },
+                    form: Some(&mut || {
+                        sum(each().map(|(x, y)| hand::near::<true>(p, t, x, y, d, ENOUGH)))
                     }),
-                    Some(&mut || each().map(|&z| u64::from(plain::near(p, z, d))).sum()),
-                );
+                    plain: Some(&mut || each().map(|z| u64::from(plain::near(p, z, d))).sum()),
+                });
                 let times = times.per(ASKED);
-                self.add(
-                    Question::Near,
-                    shape,
-                    kind.name(),
-                    n,
-                    Some(d),
-                    &replies,
-                    times,
-                );
+                let asked = kind.name();
+                self.add(Question::Near, drawing, asked, Some(d), &replies, times);
             }
         }
     }
 
-    fn inside(&mut self, shape: Shape, n: usize) {
-        let line = Line::built(shape.alone(n));
+    fn inside(&mut self, drawing: Drawing) {
+        let line = Line::built(drawing.alone());
         let (p, t) = (&line.points[..], &line.table[..]);
-        let mut random = Random(n as u64);
+        let mut random = Random(drawing.n as u64);
         for kind in POINTS {
-            let asked = kind.some(p, ASKED, &mut random);
-            let each = || black_box(&asked[..]).iter();
-            let wide = || each().map(|&(x, y)| (i64::from(x), i64::from(y)));
-            let replies: Vec<_> = each().map(|&z| check::inside(&line, z)).collect();
-            let times = self.race.run(
-                &mut || sum(wide().map(|(x, y)| lent::inside(p, t, x, y, ENOUGH))),
-                &mut || sum(wide().map(|(x, y)| hand::inside::<false>(p, t, x, y, ENOUGH))),
-                Some(&mut || sum(wide().map(|(x, y)| hand::inside::<true>(p, t, x, y, ENOUGH)))),
-                Some(&mut || each().map(|&z| u64::from(plain::inside(p, z))).sum()),
-            );
+            let asked = kind.some(drawing.sheet, p, ASKED, &mut random);
+            let each = || black_box(&asked[..]).iter().copied();
+            let replies: Vec<_> = each().map(|z| check::inside(&line, z)).collect();
+            let mut before = line
+                .before
+                .as_ref()
+                .map(|old| move || sum(each().map(|z| old.inside(z, ENOUGH))));
+            let times = self.race.run(Runners {
+                ours: &mut || sum(each().map(|(x, y)| lent::inside(p, t, x, y, ENOUGH))),
+                before: before.as_mut().map(|run| run as Runner),
+                hand: &mut || sum(each().map(|(x, y)| hand::inside::<false>(p, t, x, y, ENOUGH))),
+                form: Some(&mut || {
+                    sum(each().map(|(x, y)| hand::inside::<true>(p, t, x, y, ENOUGH)))
+                }),
+                plain: Some(&mut || each().map(|z| u64::from(plain::inside(p, z))).sum()),
+            });
             let times = times.per(ASKED);
-            self.add(Question::In, shape, kind.name(), n, None, &replies, times);
+            self.add(Question::In, drawing, kind.name(), None, &replies, times);
         }
     }
 
-    fn meet(&mut self, shape: Shape, n: usize) {
+    fn meet(&mut self, drawing: Drawing) {
         for kind in PAIRS {
-            let pairs = Line::pairs(shape, kind, n, TURNS);
+            let pairs = Line::pairs(drawing, kind, TURNS);
             let each = || black_box(&pairs[..]).iter().map(Line::slices);
-            let replies: Vec<_> = pairs.iter().map(|(a, b)| check::meet(a, b)).collect();
-            let times = self.race.run(
-                &mut || sum(each().map(|(p, t, q, u)| lent::meet(p, t, q, u, ENOUGH))),
-                &mut || sum(each().map(|(p, t, q, u)| hand::meet(p, t, q, u, ENOUGH))),
-                None,
-                Some(&mut || {
+            let replies: Vec<_> = pairs.iter().map(check::meet).collect();
+            let olds: Option<Vec<_>> = pairs.iter().map(Line::before).collect();
+            let mut before = olds.as_ref().map(|olds: &Vec<(&Old, &Old)>| {
+                let each = || black_box(&olds[..]).iter();
+                move || sum(each().map(|(a, b)| a.meet(b, ENOUGH)))
+            });
+            let times = self.race.run(Runners {
+                ours: &mut || sum(each().map(|(p, t, q, u)| lent::meet(p, t, q, u, ENOUGH))),
+                before: before.as_mut().map(|run| run as Runner),
+                hand: &mut || sum(each().map(|(p, t, q, u)| hand::meet(p, t, q, u, ENOUGH))),
+                form: None,
+                plain: Some(&mut || {
                     each()
                         .map(|(p, _, q, _)| u64::from(plain::meet(p, q)))
                         .sum()
                 }),
-            );
+            });
             let times = times.per(TURNS);
-            self.add(Question::Meet, shape, kind.name(), n, None, &replies, times);
+            self.add(Question::Meet, drawing, kind.name(), None, &replies, times);
         }
     }
 
-    fn agree(&mut self, shape: Shape, n: usize) {
+    fn agree(&mut self, drawing: Drawing) {
         for kind in PAIRS {
-            let pairs = Line::pairs(shape, kind, n, TURNS);
+            let pairs = Line::pairs(drawing, kind, TURNS);
             let each = || black_box(&pairs[..]).iter().map(Line::slices);
-            for d in DISTANCES {
-                let replies: Vec<_> = pairs.iter().map(|(a, b)| check::agree(a, b, d)).collect();
-                let times = self.race.run(
-                    &mut || sum(each().map(|(p, t, q, u)| lent::agree(p, t, q, u, d, ENOUGH))),
-                    &mut || {
-                        sum(each().map(|(p, t, q, u)| hand::agree::<false>(p, t, q, u, d, ENOUGH)))
-                    },
-                    Some(&mut || {
-                        sum(each().map(|(p, t, q, u)| hand::agree::<true>(p, t, q, u, d, ENOUGH)))
-                    }),
-                    Some(&mut || {
-                        each()
-                            .map(|(p, _, q, _)| u64::from(plain::agree(p, q, d).is_none()))
-                            .sum()
-                    }),
-                );
+            let olds: Option<Vec<_>> = pairs.iter().map(Line::before).collect();
+            for d in distances(drawing.sheet) {
+                let replies: Vec<_> = pairs.iter().map(|pair| check::agree(pair, d)).collect();
+                let mut before = olds.as_ref().map(|olds: &Vec<(&Old, &Old)>| {
+                    let each = || black_box(&olds[..]).iter();
+                    move || sum(each().map(|(a, b)| a.agree(b, d, ENOUGH)))
+                });
+                let times =
+                    self.race.run(Runners {
+                        ours: &mut || {
+                            sum(each().map(|(p, t, q, u)| lent::agree(p, t, q, u, d, ENOUGH)))
+                        },
+                        before: before.as_mut().map(|run| run as Runner),
+                        hand: &mut || {
+                            sum(each()
+                                .map(|(p, t, q, u)| hand::agree::<false>(p, t, q, u, d, ENOUGH)))
+                        },
+                        form: Some(&mut || {
+                            sum(each()
+                                .map(|(p, t, q, u)| hand::agree::<true>(p, t, q, u, d, ENOUGH)))
+                        }),
+                        plain: Some(&mut || {
+                            each()
+                                .map(|(p, _, q, _)| u64::from(plain::agree(p, q, d).is_none()))
+                                .sum()
+                        }),
+                    });
                 let times = times.per(TURNS);
-                self.add(
-                    Question::Agree,
-                    shape,
-                    kind.name(),
-                    n,
-                    Some(d),
-                    &replies,
-                    times,
-                );
+                let asked = kind.name();
+                self.add(Question::Agree, drawing, asked, Some(d), &replies, times);
             }
         }
     }
 
-    #[allow(clippy::too_many_arguments)]
     fn add(
         &mut self,
         question: Question,
-        shape: Shape,
+        drawing: Drawing,
         asked: &'static str,
-        n: usize,
         d: Option<i64>,
         replies: &[Reply],
         times: Times,
@@ -258,9 +296,8 @@ impl Bench {
         let visits: u64 = replies.iter().map(|reply| u64::from(reply.visits)).sum();
         self.report.add(Row {
             question,
-            line: shape.name(),
+            drawing,
             asked,
-            n,
             d,
             yes: replies.iter().filter(is_yes).count() as f64 / count,
             visits: visits as f64 / count,

@@ -1,34 +1,34 @@
 //! The plain scan: the rules' plain geometry over all segments, with no tree.
 //!
 //! It decides what is right: every answer of the trees is held against it. It is also what a program does that has no
-//! tree, so it is written well: one pass, 32-bit products where the ranges allow it, out at the first yes.
+//! tree, so it is written well: one pass, 64-bit products where the ranges allow it, out at the first yes.
 
 use crate::lent::word::{INSIDE, NO, ON, OUTSIDE, YES};
 
-type Point = (i32, i32);
+type Point = (i64, i64);
 
 /// AGREE's no: the line, 1 or 2, and the index of the first point that is not near the other line.
 pub type Astray = Option<(u32, u64)>;
 
 #[inline(always)]
-fn all(points: &[i32]) -> impl Iterator<Item = Point> + '_ {
+fn all(points: &[i64]) -> impl Iterator<Item = Point> + '_ {
     points.chunks_exact(2).map(|p| (p[0], p[1]))
 }
 
 /// The segments, from each point to the next.
 #[inline(always)]
-fn segments(points: &[i32]) -> impl Iterator<Item = (Point, Point)> + '_ {
+fn segments(points: &[i64]) -> impl Iterator<Item = (Point, Point)> + '_ {
     all(points).zip(all(points).skip(1))
 }
 
-/// c of z for the step from a to b: below 2^31 on the sheet.
+/// c of z for the step from a to b: below 2^43 on the sheet.
 #[inline(always)]
-fn c(a: Point, b: Point, z: Point) -> i32 {
+fn c(a: Point, b: Point, z: Point) -> i64 {
     (b.0 - a.0) * (z.1 - a.1) - (b.1 - a.1) * (z.0 - a.0)
 }
 
 #[inline(always)]
-fn square(a: Point, b: Point) -> i32 {
+fn square(a: Point, b: Point) -> i64 {
     (b.0 - a.0) * (b.0 - a.0) + (b.1 - a.1) * (b.1 - a.1)
 }
 
@@ -37,21 +37,20 @@ fn within(z: Point, d2: i64, a: Point, b: Point) -> bool {
     let t = (b.0 - a.0) * (z.0 - a.0) + (b.1 - a.1) * (z.1 - a.1);
     let u2 = square(a, b);
     if t <= 0 {
-        i64::from(square(a, z)) <= d2
+        square(a, z) <= d2
     } else if t >= u2 {
-        i64::from(square(b, z)) <= d2
+        square(b, z) <= d2
     } else {
-        let c = i64::from(c(a, b, z));
-        c * c <= d2 * i64::from(u2)
+        let c = i128::from(c(a, b, z));
+        c * c <= i128::from(d2) * i128::from(u2)
     }
 }
 
 /// A segment whose box is more than d away is passed over: that halves the time.
 #[inline(always)]
-fn is_near(points: &[i32], z: Point, d: i64) -> bool {
-    let reach = d as i32;
-    let (xmin, xmax) = (z.0 - reach, z.0 + reach);
-    let (ymin, ymax) = (z.1 - reach, z.1 + reach);
+fn is_near(points: &[i64], z: Point, d: i64) -> bool {
+    let (xmin, xmax) = (z.0 - d, z.0 + d);
+    let (ymin, ymax) = (z.1 - d, z.1 + d);
     segments(points).any(|(a, b)| {
         xmin <= a.0.max(b.0)
             && a.0.min(b.0) <= xmax
@@ -62,7 +61,7 @@ fn is_near(points: &[i32], z: Point, d: i64) -> bool {
 }
 
 #[inline(never)]
-pub fn near(points: &[i32], z: Point, d: i64) -> u32 {
+pub fn near(points: &[i64], z: Point, d: i64) -> u32 {
     if is_near(points, z, d) {
         YES
     } else {
@@ -71,7 +70,7 @@ pub fn near(points: &[i32], z: Point, d: i64) -> u32 {
 }
 
 #[inline(never)]
-pub fn inside(points: &[i32], z: Point) -> u32 {
+pub fn inside(points: &[i64], z: Point) -> u32 {
     let mut odd = false;
     for (a, b) in segments(points) {
         let (low, high) = if a.1 < b.1 { (a, b) } else { (b, a) };
@@ -93,12 +92,12 @@ pub fn inside(points: &[i32], z: Point) -> u32 {
 }
 
 #[inline(always)]
-fn one_side(p: i32, q: i32) -> bool {
+fn one_side(p: i64, q: i64) -> bool {
     (p > 0 && q > 0) || (p < 0 && q < 0)
 }
 
 #[inline(never)]
-pub fn meet(points_a: &[i32], points_b: &[i32]) -> u32 {
+pub fn meet(points_a: &[i64], points_b: &[i64]) -> u32 {
     for (a, b) in segments(points_a) {
         let (xmin, xmax) = (a.0.min(b.0), a.0.max(b.0));
         let (ymin, ymax) = (a.1.min(b.1), a.1.max(b.1));
@@ -118,8 +117,8 @@ pub fn meet(points_a: &[i32], points_b: &[i32]) -> u32 {
 }
 
 #[inline(never)]
-pub fn agree(points_a: &[i32], points_b: &[i32], d: i64) -> Astray {
-    let astray = |of: &[i32], other: &[i32]| all(of).position(|z| !is_near(other, z, d));
+pub fn agree(points_a: &[i64], points_b: &[i64], d: i64) -> Astray {
+    let astray = |of: &[i64], other: &[i64]| all(of).position(|z| !is_near(other, z, d));
     if let Some(i) = astray(points_a, points_b) {
         return Some((1, i as u64));
     }

@@ -1,19 +1,43 @@
-//! Timing four runners by turns, so that what disturbs the machine disturbs them all.
+//! Timing runners by turns, so that what disturbs the machine disturbs them all.
 
 use std::hint::black_box;
 use std::time::{Duration, Instant};
 
-use crate::times::{median, Times};
+use crate::times::Times;
 
 /// Runs a cell's questions once and gives a sum of what they said.
 pub type Runner<'a> = &'a mut (dyn FnMut() -> u64 + 'a);
 
-/// The orders in which the lanes run, repetition after repetition: within them each lane follows each other one once. A lane that
-/// always came after the plain scan would always find the caches and the branch predictor as the scan leaves them.
-const ORDERS: [[usize; 4]; 4] = [[0, 1, 3, 2], [1, 2, 0, 3], [2, 3, 1, 0], [3, 0, 2, 1]];
+/// What is timed in a cell.
+pub struct Runners<'a> {
+    pub ours: Runner<'a>,
+    /// The archive before.
+    pub before: Option<Runner<'a>>,
+    /// The hand-written tree.
+    pub hand: Runner<'a>,
+    /// The same in the prescribed form.
+    pub form: Option<Runner<'a>>,
+    /// The plain scan.
+    pub plain: Option<Runner<'a>>,
+}
+
+/// The orders in which so many lanes run, repetition after repetition: over all of them each lane follows each other
+/// one as often. A lane that always came after the plain scan would always find the caches and the branch predictor as
+/// the scan leaves them.
+fn orders(lanes: usize) -> Vec<Vec<usize>> {
+    // To and fro, 0 1 3 2 of four lanes, and the same begun at each lane; an odd number needs these backward as well.
+    let to_and_fro = (0..lanes).map(|k| match k % 2 {
+        0 => (lanes - k / 2) % lanes,
+        _ => k / 2 + 1,
+    });
+    let begun_at = |first| to_and_fro.clone().map(move |lane| (lane + first) % lanes);
+    let forward = (0..lanes).map(|first| begun_at(first).collect());
+    let backward = (0..lanes).map(|first| begun_at(first).rev().collect());
+    forward.chain(backward.take(lanes * (lanes % 2))).collect()
+}
 
 pub struct Race {
-    /// A multiple of the number of orders.
+    /// At least so many: they are made up to a multiple of the number of orders.
     pub repetitions: usize,
 }
 
@@ -21,7 +45,8 @@ struct Lane<'a> {
     runner: Runner<'a>,
     /// What every run must come to.
     sum: u64,
-    /// Runs in a repetition: enough to be timed, and to get going after another lane; too short to be interrupted often.
+    /// Runs in a repetition: enough to be timed, and to get going after another lane; too short to be interrupted
+    /// often.
     loops: u32,
     /// A slow plain scan runs in few repetitions.
     repetitions: usize,
@@ -29,67 +54,56 @@ struct Lane<'a> {
 }
 
 impl Race {
-    /// Times ours, the hand-written tree, the same in the prescribed form and the plain scan, in the orders above. A runner that
-    /// comes to another sum than before ends the run.
-    pub fn run<'a>(
-        &self,
-        ours: Runner<'a>,
-        hand: Runner<'a>,
-        form: Option<Runner<'a>>,
-        plain: Option<Runner<'a>>,
-    ) -> Times {
-        let trees = [Some(ours), Some(hand), form];
-        let [ours, hand, form] = trees.map(|runner| Some(self.lane(runner?, self.repetitions)));
-        let plain = plain.map(|runner| self.lane(runner, 3));
-        let mut lanes = [ours, hand, form, plain];
-        for repetition in 0..self.repetitions {
-            for turn in ORDERS[repetition % ORDERS.len()] {
+    /// Times all runners in the orders above. One that comes to another sum than before ends the run.
+    pub fn run(&self, runners: Runners) -> Times {
+        let Runners {
+            ours,
+            before,
+            hand,
+            form,
+            plain,
+        } = runners;
+        let trees = [Some(ours), before, Some(hand), form];
+        let [ours, before, hand, form] = trees.map(|runner| Some(lane(runner?, usize::MAX)));
+        let plain = plain.map(|runner| lane(runner, 3));
+        let mut lanes = [ours, before, hand, form, plain];
+        self.time(lanes.iter_mut().flatten().collect());
+        Times::of(lanes.map(|lane| lane.map_or(vec![], |lane| lane.times)))
+    }
+
+    fn time(&self, mut lanes: Vec<&mut Lane>) {
+        let orders = orders(lanes.len());
+        let repetitions = self.repetitions.next_multiple_of(orders.len());
+        for repetition in 0..repetitions {
+            for &turn in &orders[repetition % orders.len()] {
                 let lane = &mut lanes[turn];
-                if let Some(lane) = lane.as_mut().filter(|lane| repetition < lane.repetitions) {
+                if repetition < lane.repetitions {
                     let time = lane.timed();
                     lane.times.push(time);
                 }
             }
         }
-        let [ours, hand, form, plain] = lanes.map(|lane| lane.map_or(vec![], |lane| lane.times));
-        let ratio = |over: &[f64], under: &[f64]| {
-            median(
-                over.iter()
-                    .zip(under)
-                    .map(|(over, under)| over / under)
-                    .collect(),
-            )
-        };
-        Times {
-            ours_by_hand: ratio(&ours, &hand),
-            ours_by_form: ratio(&ours, &form),
-            plain_by_ours: ratio(&plain, &ours),
-            ours: median(ours),
-            hand: median(hand),
-            form: median(form),
-            plain: median(plain),
-        }
     }
+}
 
-    /// A runner that takes long runs in so many repetitions alone.
-    fn lane<'a>(&self, runner: Runner<'a>, if_slow: usize) -> Lane<'a> {
-        const LEAST: Duration = Duration::from_micros(300);
-        const SLOW: Duration = Duration::from_millis(20);
-        let mut lane = Lane {
-            runner,
-            sum: 0,
-            loops: 1,
-            repetitions: self.repetitions,
-            times: vec![],
-        };
-        lane.sum = (lane.runner)();
-        let once = Duration::from_nanos(lane.timed() as u64);
-        lane.loops = (LEAST.as_nanos() / once.as_nanos().max(1) + 1) as u32;
-        if once > SLOW {
-            lane.repetitions = if_slow.min(self.repetitions);
-        }
-        lane
+/// A runner that takes long runs in so many repetitions alone.
+fn lane(runner: Runner, if_slow: usize) -> Lane {
+    const LEAST: Duration = Duration::from_micros(300);
+    const SLOW: Duration = Duration::from_millis(20);
+    let mut lane = Lane {
+        runner,
+        sum: 0,
+        loops: 1,
+        repetitions: usize::MAX,
+        times: vec![],
+    };
+    lane.sum = (lane.runner)();
+    let once = Duration::from_nanos(lane.timed() as u64);
+    lane.loops = (LEAST.as_nanos() / once.as_nanos().max(1) + 1) as u32;
+    if once > SLOW {
+        lane.repetitions = if_slow;
     }
+    lane
 }
 
 impl Lane<'_> {

@@ -2,6 +2,8 @@
 
 use std::fs;
 
+use crate::before;
+use crate::shapes::{Drawing, Sheet, SHEETS};
 use crate::times::{median, Times};
 
 #[derive(Clone, Copy, PartialEq, Eq, Debug)]
@@ -32,50 +34,56 @@ impl Question {
         }
     }
 
-    /// The one that a bar speaks of, and the other one. A build is to measure each run whole, as form does.
-    fn yardsticks(self) -> [Yardstick; 2] {
-        match self {
-            Question::Build => [Yardstick::Form, Yardstick::Hand],
+    /// The hand-written tree that a bar speaks of, and the other one. A build is to measure each run whole, as form
+    /// does; but on wide lines it is held against what is fastest by hand.
+    fn yardsticks(self, sheet: Sheet) -> [Yardstick; 2] {
+        match (self, sheet) {
+            (Question::Build, Sheet::Old) => [Yardstick::Form, Yardstick::Hand],
             _ => [Yardstick::Hand, Yardstick::Form],
         }
     }
 }
 
-/// A tree written by hand that ours is held against.
+/// What ours is held against.
 #[derive(Clone, Copy)]
 enum Yardstick {
+    Before,
     Hand,
     Form,
 }
 
 impl Yardstick {
-    fn name(self, question: Question) -> String {
-        let by = match self {
+    fn name(self) -> &'static str {
+        match self {
+            Yardstick::Before => "before",
             Yardstick::Hand => "hand",
             Yardstick::Form => "form",
-        };
-        format!(
-            "{}: ours at most 1.10 times {by}, from n = 64 on",
-            question.name()
-        )
+        }
     }
 
-    /// The cells with their ratio.
-    fn of<'a>(self, rows: impl Iterator<Item = &'a Row>) -> Vec<(&'a Row, f64)> {
-        let ratio = |row: &'a Row| match self {
-            Yardstick::Hand => (row, row.times.ours_by_hand),
-            Yardstick::Form => (row, row.times.ours_by_form),
-        };
-        rows.map(ratio).collect()
+    fn ratio(self, times: &Times) -> f64 {
+        match self {
+            Yardstick::Before => times.ours_by_before,
+            Yardstick::Hand => times.ours_by_hand,
+            Yardstick::Form => times.ours_by_form,
+        }
+    }
+
+    /// What a bar allows at most.
+    fn most(self, question: Question, sheet: Sheet) -> f64 {
+        match (self, question, sheet) {
+            (Yardstick::Before, Question::Build, _) => 1.10,
+            (Yardstick::Before, _, _) | (_, _, Sheet::Wide) => 1.15,
+            (_, _, Sheet::Old) => 1.10,
+        }
     }
 }
 
 /// A cell of the table: one kind of question about one kind of line. What does not apply is not a number.
 pub struct Row {
     pub question: Question,
-    pub line: &'static str,
+    pub drawing: Drawing,
     pub asked: &'static str,
-    pub n: usize,
     pub d: Option<i64>,
     /// The part that says yes, inside or on.
     pub yes: f64,
@@ -83,21 +91,76 @@ pub struct Row {
     pub times: Times,
 }
 
+/// The table's columns with their widths. The first four stand to the left.
+const COLUMNS: [(&str, usize); 17] = [
+    ("", 5),
+    ("sheet", 5),
+    ("line", 6),
+    ("asked", 9),
+    ("n", 4),
+    ("D", 5),
+    ("yes", 4),
+    ("visits", 7),
+    ("ours", 10),
+    ("before", 10),
+    ("hand", 10),
+    ("form", 10),
+    ("plain", 12),
+    ("ours/before", 11),
+    ("ours/hand", 9),
+    ("ours/form", 9),
+    ("plain/ours", 10),
+];
+
 impl Row {
-    fn distance(&self) -> String {
-        self.d.map_or(String::new(), |d| d.to_string())
+    fn fields(&self) -> [String; COLUMNS.len()] {
+        let times = &self.times;
+        [
+            self.question.name().to_string(),
+            self.drawing.sheet.name().to_string(),
+            self.drawing.shape.name().to_string(),
+            self.asked.to_string(),
+            self.drawing.n.to_string(),
+            self.d.map_or(String::new(), |d| d.to_string()),
+            shown(100.0 * self.yes, |yes| format!("{yes:.0}%")),
+            shown(self.visits, number),
+            number(times.ours),
+            number(times.before),
+            number(times.hand),
+            number(times.form),
+            number(times.plain),
+            shown(times.ours_by_before, two_places),
+            shown(times.ours_by_hand, two_places),
+            shown(times.ours_by_form, two_places),
+            number(times.plain_by_ours),
+        ]
     }
 
     fn place(&self) -> String {
-        let all = [self.line, self.asked, &format!("n {}", self.n)];
-        let mut place: Vec<String> = all
-            .iter()
-            .filter(|part| !part.is_empty())
-            .map(|part| part.to_string())
-            .collect();
-        place.extend(self.d.map(|d| format!("D {d}")));
-        place.join(", ")
+        let Drawing { sheet, shape, n } = self.drawing;
+        let mut place = format!("{}, {}", sheet.name(), shape.name());
+        if !self.asked.is_empty() {
+            place += &format!(", {}", self.asked);
+        }
+        place += &format!(", n {n}");
+        place + &self.d.map_or(String::new(), |d| format!(", D {d}"))
     }
+}
+
+/// One line of the table. What speaks of the archive before is left out where there is none.
+fn print_fields(fields: [String; COLUMNS.len()]) {
+    let mut line = String::new();
+    for (k, ((name, width), field)) in COLUMNS.into_iter().zip(fields).enumerate() {
+        if name.contains("before") && before::ARCHIVE.is_none() {
+            continue;
+        }
+        line += &if k < 4 {
+            format!("{field:<width$} ")
+        } else {
+            format!("{field:>width$} ")
+        };
+    }
+    println!("{}", line.trim_end());
 }
 
 pub fn heading(repetitions: usize) {
@@ -110,19 +173,25 @@ pub fn heading(repetitions: usize) {
             .to_string()
     };
     println!("archive    {}", kneukelboom::ARCHIVE);
+    println!("before     {}", before::ARCHIVE.unwrap_or("none"));
     println!("processor  {}", line("/proc/cpuinfo", "model name"));
     let load = line("/proc/loadavg", "");
     let load: Vec<&str> = load.split(' ').take(3).collect();
     println!("load       {}", load.join(" "));
     println!(
         "
+old    lines within the sheet of 32-bit tables, -16,383 to 16,383
+wide   the same lines 61 times as large, over the sheet of today: squares pass 64 bits
+
 ours   the archive
-hand   the hand-written strip tree: same rows, same walk, same row check; walks by a stack of its own, boxes from the halves
+before the archive of version 1, of 32-bit points and tables
+hand   the hand-written strip tree: same rows, same walk, same row check; walks by a stack, boxes from the halves
 form   the same in the form that is asked of ours: walks by calls, each run measured whole (meet: hand is)
 plain  the plain scan over all segments
 
-Nanoseconds per question, for build per segment: medians of {repetitions} interleaved repetitions. Ratios are medians of those within a
-repetition. Every answer is compared: word and visits of ours and hand, word with plain.
+Nanoseconds per question, for build per segment: medians of {repetitions} interleaved repetitions or a few more. Ratios
+are medians of those within a repetition. Every answer is compared: all numbers of ours, before, hand and form, the
+word with plain.
 "
     );
 }
@@ -141,125 +210,166 @@ impl Report {
     }
 
     pub fn add(&mut self, row: Row) {
+        let group = |row: &Row| (row.question, row.drawing.sheet);
         if !self.summary_only {
-            self.print(&row);
+            if self.rows.last().map(group) != Some(group(&row)) {
+                println!();
+                print_fields(COLUMNS.map(|(name, _)| name.to_string()));
+            }
+            print_fields(row.fields());
         }
         self.rows.push(row);
     }
 
-    fn print(&self, row: &Row) {
-        if self.rows.last().map(|last| last.question) != Some(row.question) {
-            println!(
-                "\n{:<5} {:<6} {:<9} {:>4} {:>3} {:>4} {:>7} {:>10} {:>10} {:>10} {:>12} {:>9} {:>9} {:>10}",
-                "", "line", "asked", "n", "D", "yes", "visits", "ours", "hand", "form", "plain", "ours/hand", "ours/form", "plain/ours"
-            );
-        }
-        let times = &row.times;
-        println!(
-            "{:<5} {:<6} {:<9} {:>4} {:>3} {:>4} {:>7} {:>10} {:>10} {:>10} {:>12} {:>9} {:>9} {:>10}",
-            row.question.name(),
-            row.line,
-            row.asked,
-            row.n,
-            row.distance(),
-            shown(100.0 * row.yes, |yes| format!("{yes:.0}%")),
-            shown(row.visits, number),
-            number(times.ours),
-            number(times.hand),
-            number(times.form),
-            number(times.plain),
-            shown(times.ours_by_hand, two_places),
-            shown(times.ours_by_form, two_places),
-            number(times.plain_by_ours),
-        );
+    fn of(&self, question: Question, sheet: Sheet) -> impl Iterator<Item = &Row> {
+        let asked = move |row: &&Row| row.question == question && row.drawing.sheet == sheet;
+        self.rows.iter().filter(asked)
     }
 
-    fn of(&self, question: Question) -> impl Iterator<Item = &Row> {
-        self.rows.iter().filter(move |row| row.question == question)
-    }
-
-    /// Prints ours over hand by question and size, and the bars. Gives whether all that could be judged are met.
-    pub fn summary(&self) -> bool {
-        let mut sizes: Vec<usize> = self.rows.iter().map(|row| row.n).collect();
+    /// Numbers of segments, rising.
+    fn sizes(&self) -> Vec<usize> {
+        let mut sizes: Vec<usize> = self.rows.iter().map(|row| row.drawing.n).collect();
         sizes.sort_unstable();
         sizes.dedup();
-        println!("\nours/hand: the median over the cells of a size, and the greatest. Visits: medians over the cells with 5 or more");
+        sizes
+    }
+
+    /// Prints what the cells come to, and the bars. Gives whether all that could be judged are met.
+    pub fn summary(&self) -> bool {
+        for sheet in SHEETS {
+            self.by_size(sheet);
+        }
+        if before::ARCHIVE.is_some() {
+            self.by_shape();
+        }
+        let met = self.bars();
+        println!("\nbeside the bars: against the other hand-written tree");
+        for sheet in SHEETS {
+            for question in QUESTIONS.into_iter().filter(|&q| q != Question::Meet) {
+                self.held(question, sheet, question.yardsticks(sheet)[1]);
+            }
+        }
+        met
+    }
+
+    /// Ours over hand by question and size.
+    fn by_size(&self, sheet: Sheet) {
+        println!(
+            "\n{}: ours/hand, the median over the cells of a size, and the greatest. \
+             Visits: medians over the cells with 5 or more",
+            sheet.name()
+        );
         print!("{:<5}", "");
-        for n in &sizes {
+        for n in self.sizes() {
             print!(" {:>12}", format!("n {n}"));
         }
-        println!(
-            " {:>15} {:>15} {:>15}",
-            "ours, ns/visit", "hand, ns/visit", "form, ns/visit"
-        );
+        for name in ["ours", "hand", "form"] {
+            print!(" {:>15}", format!("{name}, ns/visit"));
+        }
+        println!();
         for question in QUESTIONS {
             print!("{:<5}", question.name());
-            for &n in &sizes {
-                let cells = self.of(question).filter(|row| row.n == n);
-                let ratios: Vec<f64> = cells.map(|row| row.times.ours_by_hand).collect();
-                let most = ratios.iter().copied().fold(f64::NAN, f64::max);
-                print!(" {:>12}", format!("{:.2}, {most:.2}", median(ratios)));
+            for n in self.sizes() {
+                let cells = self.of(question, sheet).filter(|row| row.drawing.n == n);
+                let [_, middle, most] = spread(cells.map(|row| row.times.ours_by_hand));
+                print!(" {:>12}", format!("{middle:.2}, {most:.2}"));
             }
             for time in [|t: &Times| t.ours, |t: &Times| t.hand, |t: &Times| t.form] {
-                let walked = self.of(question).filter(|row| row.visits >= 5.0);
+                let walked = self.of(question, sheet).filter(|row| row.visits >= 5.0);
                 let by_visit = walked.map(|row| time(&row.times) / row.visits);
-                print!(
-                    " {:>15}",
-                    shown(median(by_visit.collect()), |ns| format!("{ns:.1}"))
-                );
+                let by_visit = shown(median(by_visit.collect()), |ns| format!("{ns:.1}"));
+                print!(" {by_visit:>15}");
             }
             println!();
         }
+    }
 
+    /// Ours over the archive before, by question, shape and size.
+    fn by_shape(&self) {
+        println!("\nold: ours/before, the median over the cells of a shape and size, the least and the greatest");
+        print!("{:<12}", "");
+        for n in self.sizes() {
+            print!(" {:>18}", format!("n {n}"));
+        }
+        println!();
+        for question in QUESTIONS {
+            let mut names: Vec<&str> = vec![];
+            for row in self.of(question, Sheet::Old) {
+                let name = row.drawing.shape.name();
+                if !names.contains(&name) {
+                    names.push(name);
+                }
+            }
+            for name in names {
+                print!("{:<5} {name:<6}", question.name());
+                for n in self.sizes() {
+                    let of_shape = |row: &&Row| row.drawing.shape.name() == name;
+                    let cells = self.of(question, Sheet::Old).filter(of_shape);
+                    let cells = cells.filter(|row| row.drawing.n == n);
+                    let [least, middle, most] = spread(cells.map(|row| row.times.ours_by_before));
+                    print!(" {:>18}", format!("{middle:.2}, {least:.2} {most:.2}"));
+                }
+                println!();
+            }
+        }
+    }
+
+    /// Whether all bars are met.
+    fn bars(&self) -> bool {
         println!("\nbars");
         let mut met = true;
-        let from_64 = |question| self.of(question).filter(|row| row.n >= 64);
-        let at_most = |ratio| ratio <= 1.10;
-        for question in QUESTIONS {
-            let by = question.yardsticks()[0];
-            met &= bar(&by.name(question), by.of(from_64(question)), at_most);
+        for sheet in SHEETS {
+            for question in QUESTIONS {
+                met &= self.held(question, sheet, question.yardsticks(sheet)[0]);
+            }
         }
-        let name = "near, near the line, n = 4,096: ours at least 8 times as fast as plain";
-        let cells = self
-            .of(Question::Near)
-            .filter(|row| row.n == 4_096 && row.asked == "near line");
-        let cells = cells.map(|row| (row, row.times.plain_by_ours));
-        met &= bar(name, cells.collect(), |ratio| ratio >= 8.0);
-        let name = "meet, crossing, n = 4,096: ours at least 1,000 times as fast as plain";
-        let cells = self
-            .of(Question::Meet)
-            .filter(|row| row.n == 4_096 && row.asked == "crossing");
-        let cells = cells.map(|row| (row, row.times.plain_by_ours));
-        met &= bar(name, cells.collect(), |ratio| ratio >= 1_000.0);
-
-        println!("\nbeside the bars: against the other hand-written tree");
-        for question in QUESTIONS.into_iter().filter(|&q| q != Question::Meet) {
-            let by = question.yardsticks()[1];
-            bar(&by.name(question), by.of(from_64(question)), at_most);
+        if before::ARCHIVE.is_some() {
+            for question in QUESTIONS {
+                met &= self.held(question, Sheet::Old, Yardstick::Before);
+            }
         }
+        let by_plain = |question, asked: &str, least: f64| {
+            let cells = self.of(question, Sheet::Old);
+            let cells = cells.filter(|row| row.drawing.n == 4_096 && row.asked == asked);
+            let cells = cells.map(|row| (row, row.times.plain_by_ours)).collect();
+            let (name, times) = (question.name(), grouped(least));
+            let name =
+                format!("old, {name}, {asked}, n = 4,096: at least {times} times as fast as plain");
+            bar(&name, cells, |ratio| ratio >= least)
+        };
+        met &= by_plain(Question::Near, "near line", 8.0);
+        met &= by_plain(Question::Meet, "crossing", 1_000.0);
         met
+    }
+
+    /// Whether ours takes no more than a bar allows, from 64 segments on.
+    fn held(&self, question: Question, sheet: Sheet, by: Yardstick) -> bool {
+        let most = by.most(question, sheet);
+        let cells = self.of(question, sheet).filter(|row| row.drawing.n >= 64);
+        let cells = cells.map(|row| (row, by.ratio(&row.times))).collect();
+        let name = format!(
+            "{}, {}: at most {most:.2} times {}, from n = 64 on",
+            sheet.name(),
+            question.name(),
+            by.name()
+        );
+        bar(&name, cells, |ratio| ratio <= most)
     }
 }
 
 /// Prints one bar: whether all its cells meet it, and some of those that do not. A bar without cells is not judged.
-fn bar(name: &str, cells: Vec<(&Row, f64)>, meets: fn(f64) -> bool) -> bool {
-    let values: Vec<f64> = cells.iter().map(|cell| cell.1).collect();
-    let least = values.iter().copied().fold(f64::NAN, f64::min);
-    let most = values.iter().copied().fold(f64::NAN, f64::max);
+fn bar(name: &str, cells: Vec<(&Row, f64)>, meets: impl Fn(f64) -> bool) -> bool {
     let mut missed: Vec<&(&Row, f64)> = cells.iter().filter(|cell| !meets(cell.1)).collect();
     let verdict = match (cells.len(), missed.len()) {
         (0, _) => {
-            println!("{name:<72} not judged");
+            println!("{name:<76} not judged");
             return true;
         }
         (count, 0) => format!("met in all {count} cells"),
         (count, missed) => format!("MISSED in {missed} of {count} cells"),
     };
-    let range = [least, most, median(values)].map(number);
-    println!(
-        "{name:<72} {verdict}: {} to {}, median {}",
-        range[0], range[1], range[2]
-    );
+    let [least, middle, most] = spread(cells.iter().map(|cell| cell.1)).map(number);
+    println!("{name:<76} {verdict}: {least} to {most}, median {middle}");
     // The worst first: the greatest where the bar is an upper one.
     missed.sort_by(|a, b| {
         if meets(0.0) {
@@ -272,6 +382,14 @@ fn bar(name: &str, cells: Vec<(&Row, f64)>, meets: fn(f64) -> bool) -> bool {
         println!("    {}: {}", row.place(), number(*value));
     }
     missed.is_empty()
+}
+
+/// The least of some values, their median and the greatest.
+fn spread(values: impl Iterator<Item = f64>) -> [f64; 3] {
+    let values: Vec<f64> = values.collect();
+    let least = values.iter().copied().fold(f64::NAN, f64::min);
+    let most = values.iter().copied().fold(f64::NAN, f64::max);
+    [least, median(values), most]
 }
 
 /// Nothing where it is not a number.

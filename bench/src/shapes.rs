@@ -17,13 +17,46 @@ impl Random {
     }
 
     /// From `least` to `greatest`, both taken in.
-    pub fn between(&mut self, least: i32, greatest: i32) -> i32 {
-        let range = (i64::from(greatest) - i64::from(least) + 1) as u64;
-        (i64::from(least) + (self.next() % range) as i64) as i32
+    pub fn between(&mut self, least: i64, greatest: i64) -> i64 {
+        let range = (greatest - least + 1) as u64;
+        least + (self.next() % range) as i64
     }
 
     pub fn pick<T: Copy>(&mut self, from: &[T]) -> T {
         from[(self.next() % from.len() as u64) as usize]
+    }
+}
+
+/// The sheet that lines are drawn over.
+#[derive(Clone, Copy, PartialEq, Eq, Debug)]
+pub enum Sheet {
+    /// That of 32-bit tables.
+    Old,
+    /// All of it: the squares that are compared pass 64 bits.
+    Wide,
+}
+
+pub const SHEETS: [Sheet; 2] = [Sheet::Old, Sheet::Wide];
+
+impl Sheet {
+    pub fn name(self) -> &'static str {
+        match self {
+            Sheet::Old => "old",
+            Sheet::Wide => "wide",
+        }
+    }
+
+    /// Coordinates go from -limit to limit.
+    pub fn limit(self) -> i64 {
+        match self {
+            Sheet::Old => 16_383,
+            Sheet::Wide => SHEET,
+        }
+    }
+
+    /// Sizes, steps and distances are those of the old sheet so many times: 1, or 61.
+    pub fn scale(self) -> i64 {
+        self.limit() / Sheet::Old.limit()
     }
 }
 
@@ -34,12 +67,12 @@ type Drawn = (f64, f64);
 pub enum Shape {
     /// A river: three waves on one another.
     Smooth,
-    /// From side to side at each point, 400 units (25 metres) each.
+    /// From side to side at each point, 400 units of the old sheet (25 metres) each.
     Zigzag,
     /// A pond with bays; its last point is its first.
     Ring,
-    /// A zigzag along a wave. Splits fall next to an end, and the tree is nearly as deep as the line is long: the worst that a
-    /// strip tree can meet. It is asked for by name, and no bar speaks of it.
+    /// A zigzag along a wave. Splits fall next to an end, and the tree is nearly as deep as the line is long: the worst
+    /// that a strip tree can meet. It is asked for by name, and no bar speaks of it.
     Saw,
 }
 
@@ -75,57 +108,70 @@ impl Shape {
             }
         }
     }
+}
 
-    /// A line of n segments, drawn at a size and around a place, in sheet units.
-    fn line(self, n: usize, shift: f64, size: f64, around: Drawn) -> Vec<i32> {
-        let unit = |v: f64| (v.round() as i32).clamp(-SHEET, SHEET);
-        (0..=n)
+/// What is drawn: a shape of n segments over a sheet.
+#[derive(Clone, Copy, PartialEq, Eq, Debug)]
+pub struct Drawing {
+    pub sheet: Sheet,
+    pub shape: Shape,
+    pub n: usize,
+}
+
+impl Drawing {
+    /// Drawn at a size and around a place, in units of the old sheet.
+    fn line(self, shift: f64, size: f64, around: Drawn) -> Vec<i64> {
+        let (scale, limit) = (self.sheet.scale() as f64, self.sheet.limit());
+        let unit = |v: f64| ((scale * v).round() as i64).clamp(-limit, limit);
+        (0..=self.n)
             .flat_map(|i| {
-                let (x, y) = self.drawn(i, n, shift);
+                let (x, y) = self.shape.drawn(i, self.n, shift);
                 [unit(size * x + around.0), unit(size * y + around.1)]
             })
             .collect()
     }
 
     /// A line across most of the sheet.
-    pub fn alone(self, n: usize) -> Vec<i32> {
-        self.line(n, 0.0, 16_000.0, (0.0, 0.0))
+    pub fn alone(self) -> Vec<i64> {
+        self.line(0.0, 16_000.0, (0.0, 0.0))
     }
 
     /// Two lines of n segments. `turn` moves the second a little.
-    pub fn pair(self, pair: Pair, n: usize, turn: usize) -> (Vec<i32>, Vec<i32>) {
+    pub fn pair(self, pair: Pair, turn: usize) -> (Vec<i64>, Vec<i64>) {
         let moved = 37.0 * turn as f64;
         match pair {
             Pair::Far => (
-                self.line(n, 0.0, 7_000.0, (-8_500.0, 0.0)),
-                self.line(n, 0.0, 7_000.0, (8_500.0, moved)),
+                self.line(0.0, 7_000.0, (-8_500.0, 0.0)),
+                self.line(0.0, 7_000.0, (8_500.0, moved)),
             ),
             Pair::Parallel => {
-                let a = self.line(n, 0.01 * turn as f64, 15_500.0, (0.0, 0.0));
+                let a = self.line(0.01 * turn as f64, 15_500.0, (0.0, 0.0));
                 let b = a.chunks_exact(2).flat_map(|p| self.beside((p[0], p[1])));
                 let b = b.collect();
                 (a, b)
             }
-            Pair::Crossing if self == Shape::Ring => (
-                self.line(n, 0.0, 11_000.0, (-4_000.0, 0.0)),
-                self.line(n, 0.0, 11_000.0, (4_000.0, moved)),
+            Pair::Crossing if self.shape == Shape::Ring => (
+                self.line(0.0, 11_000.0, (-4_000.0, 0.0)),
+                self.line(0.0, 11_000.0, (4_000.0, moved)),
             ),
             Pair::Crossing => {
-                let a = self.line(n, 0.0, 16_000.0, (0.0, 0.0));
-                let b = self.line(n, 0.1, 16_000.0, (0.0, moved));
+                let a = self.line(0.0, 16_000.0, (0.0, 0.0));
+                let b = self.line(0.1, 16_000.0, (0.0, moved));
                 (a, b.chunks_exact(2).flat_map(|p| [p[1], p[0]]).collect())
             }
         }
     }
 
-    /// A point 24 units (1.5 metres) beside: upward, or outward from the middle of a ring. So the lines never meet.
-    fn beside(self, (x, y): (i32, i32)) -> [i32; 2] {
-        if self != Shape::Ring {
-            return [x, y + 24];
+    /// A point 24 units of the old sheet (1.5 metres) beside: upward, or outward from the middle of a ring. So the
+    /// lines never meet.
+    fn beside(self, (x, y): (i64, i64)) -> [i64; 2] {
+        let aside = 24 * self.sheet.scale();
+        if self.shape != Shape::Ring {
+            return [x, y + aside];
         }
-        let (x, y) = (f64::from(x), f64::from(y));
-        let out = 1.0 + 24.0 / x.hypot(y);
-        [(out * x).round() as i32, (out * y).round() as i32]
+        let (x, y) = (x as f64, y as f64);
+        let out = 1.0 + aside as f64 / x.hypot(y);
+        [(out * x).round() as i64, (out * y).round() as i64]
     }
 }
 
@@ -133,7 +179,7 @@ impl Shape {
 pub enum Pair {
     /// In the two halves of the sheet.
     Far,
-    /// 24 units (1.5 metres) beside one another all along.
+    /// 24 units of the old sheet (1.5 metres) beside one another all along.
     Parallel,
     /// One across the other.
     Crossing,
@@ -155,7 +201,7 @@ impl Pair {
 pub enum Points {
     /// Anywhere on the sheet.
     Uniform,
-    /// At most a metre (16 units) from some place on the line, in x and in y.
+    /// At most 16 units of the old sheet (a metre) from some place on the line, in x and in y.
     Near,
     /// A point of the line itself.
     Vertex,
@@ -172,24 +218,32 @@ impl Points {
         }
     }
 
-    pub fn some(self, line: &[i32], count: usize, random: &mut Random) -> Vec<(i32, i32)> {
-        (0..count).map(|_| self.one(line, random)).collect()
+    pub fn some(
+        self,
+        sheet: Sheet,
+        line: &[i64],
+        count: usize,
+        random: &mut Random,
+    ) -> Vec<(i64, i64)> {
+        (0..count).map(|_| self.one(sheet, line, random)).collect()
     }
 
-    fn one(self, line: &[i32], random: &mut Random) -> (i32, i32) {
+    fn one(self, sheet: Sheet, line: &[i64], random: &mut Random) -> (i64, i64) {
         let at = |i: usize| (line[2 * i], line[2 * i + 1]);
-        let n = line.len() / 2 - 1;
+        let n = line.len() as i64 / 2 - 1;
+        let limit = sheet.limit();
         match self {
-            Points::Uniform => (random.between(-SHEET, SHEET), random.between(-SHEET, SHEET)),
+            Points::Uniform => (random.between(-limit, limit), random.between(-limit, limit)),
             Points::Near => {
-                let i = random.between(0, n as i32 - 1) as usize;
+                let i = random.between(0, n - 1) as usize;
                 let (a, b) = (at(i), at(i + 1));
-                let part = f64::from(random.between(0, 1_000)) / 1_000.0;
-                let along = |a: i32, b: i32| a + (f64::from(b - a) * part).round() as i32;
-                let mut moved = |v: i32| (v + random.between(-16, 16)).clamp(-SHEET, SHEET);
+                let part = random.between(0, 1_000) as f64 / 1_000.0;
+                let along = |a: i64, b: i64| a + ((b - a) as f64 * part).round() as i64;
+                let off = 16 * sheet.scale();
+                let mut moved = |v: i64| (v + random.between(-off, off)).clamp(-limit, limit);
                 (moved(along(a.0, b.0)), moved(along(a.1, b.1)))
             }
-            Points::Vertex => at(random.between(0, n as i32) as usize),
+            Points::Vertex => at(random.between(0, n) as usize),
         }
     }
 }

@@ -1,22 +1,44 @@
 //! What a race comes to: times, their ratios, and the median.
 
-/// Nanoseconds of one run, median over the repetitions. The ratios are medians of the ratios within a repetition. What has not
-/// run is not a number.
+/// Nanoseconds of one run, median over the repetitions. The ratios are medians of the ratios within a repetition. What
+/// has not run is not a number.
 pub struct Times {
     pub ours: f64,
+    pub before: f64,
     pub hand: f64,
     pub form: f64,
     pub plain: f64,
+    pub ours_by_before: f64,
     pub ours_by_hand: f64,
     pub ours_by_form: f64,
     pub plain_by_ours: f64,
 }
 
 impl Times {
+    /// Of the times of each repetition: ours, before, hand, form and plain.
+    pub fn of([ours, before, hand, form, plain]: [Vec<f64>; 5]) -> Times {
+        let ratio = |over: &[f64], under: &[f64]| {
+            let both = over.iter().zip(under);
+            median(both.map(|(over, under)| over / under).collect())
+        };
+        Times {
+            ours_by_before: ratio(&ours, &before),
+            ours_by_hand: ratio(&ours, &hand),
+            ours_by_form: ratio(&ours, &form),
+            plain_by_ours: ratio(&plain, &ours),
+            ours: median(ours),
+            before: median(before),
+            hand: median(hand),
+            form: median(form),
+            plain: median(plain),
+        }
+    }
+
     pub fn per(self, count: usize) -> Times {
         let count = count as f64;
         Times {
             ours: self.ours / count,
+            before: self.before / count,
             hand: self.hand / count,
             form: self.form / count,
             plain: self.plain / count,

@@ -1,8 +1,19 @@
-//! Shared by the tests: both readings of a question as one value that can be compared, and lines made from a seed.
+//! Shared by the tests: both readings of a call as one value that can be compared, and lines made from a seed.
 
 use kneukelboom::lent::{self, line, word, Reply};
 use second::geometry::{Name, Point};
+use second::old;
+use second::tree::{self, Refusal};
 use second::walk::{self, Answer, Outcome, Tree};
+
+/// What a build or a widening says that wrote.
+pub const WRITTEN: Reply = Reply {
+    word: word::BUILT,
+    visits: 0,
+    number: 0,
+    line: line::NO_LINE,
+    place: 0,
+};
 
 /// The second reading's outcome in the numbers of the proved library's reply.
 pub fn in_numbers(outcome: Outcome) -> Reply {
@@ -42,25 +53,45 @@ fn line_of(name: Option<Name>) -> u32 {
     }
 }
 
+fn written(said: Result<(), Refusal>) -> Reply {
+    said.map_or_else(
+        |refusal| in_numbers(Outcome::refused(refusal)),
+        |()| WRITTEN,
+    )
+}
+
+/// Builds by both readings, which must say and leave the same; gives the reply.
+pub fn build(points: &[i64], table: &mut [i64]) -> Reply {
+    let mut other = table.to_vec();
+    let ours = lent::build(points, table);
+    let theirs = written(tree::build(Name::A, points, &mut other));
+    assert_eq!(ours, theirs, "the build of {points:?}");
+    assert_eq!(table, other, "the table of {points:?}");
+    ours
+}
+
+/// Widens by both readings, which must say and leave the same; gives the reply.
+pub fn widen(old: &[i32], new: &mut [i64]) -> Reply {
+    let mut other = new.to_vec();
+    let ours = lent::widen(old, new);
+    let theirs = written(old::widen(old, &mut other));
+    assert_eq!(ours, theirs, "the widening of {old:?}");
+    assert_eq!(new, other, "the widened numbers of {old:?}");
+    ours
+}
+
 /// Points and a table, as both readings are lent them.
 #[derive(Clone, Debug)]
 pub struct Lent {
-    pub points: Vec<i32>,
-    pub table: Vec<i32>,
+    pub points: Vec<i64>,
+    pub table: Vec<i64>,
 }
 
 impl Lent {
-    /// Built by the proved library, which must write what the second reading writes.
-    pub fn built(points: &[i32]) -> Lent {
+    /// Built by both readings.
+    pub fn built(points: &[i64]) -> Lent {
         let mut table = vec![-7; lent::table_len(points.len()) + 3];
-        let mut other = table.clone();
-        assert_eq!(
-            lent::build(points, &mut table).word,
-            word::BUILT,
-            "{points:?}"
-        );
-        second::tree::build(Name::A, points, &mut other).expect("the proved library built it");
-        assert_eq!(table, other, "the table of {points:?}");
+        assert_eq!(build(points, &mut table), WRITTEN, "{points:?}");
         Lent {
             points: points.to_vec(),
             table,
@@ -77,8 +108,8 @@ impl Lent {
 }
 
 /// Asks both readings and compares; gives the reply.
-pub fn near(a: &Lent, x: i32, y: i32, d: i32, allowance: u32) -> Reply {
-    let ours = lent::near(&a.points, &a.table, x.into(), y.into(), d.into(), allowance);
+pub fn near(a: &Lent, x: i64, y: i64, d: i64, allowance: u32) -> Reply {
+    let ours = lent::near(&a.points, &a.table, x, y, d, allowance);
     let theirs = walk::near(a.tree(Name::A), Point { x, y }, d, allowance);
     assert_eq!(
         ours,
@@ -88,8 +119,8 @@ pub fn near(a: &Lent, x: i32, y: i32, d: i32, allowance: u32) -> Reply {
     ours
 }
 
-pub fn inside(a: &Lent, x: i32, y: i32, allowance: u32) -> Reply {
-    let ours = lent::inside(&a.points, &a.table, x.into(), y.into(), allowance);
+pub fn inside(a: &Lent, x: i64, y: i64, allowance: u32) -> Reply {
+    let ours = lent::inside(&a.points, &a.table, x, y, allowance);
     let theirs = walk::side(a.tree(Name::A), Point { x, y }, allowance);
     assert_eq!(ours, in_numbers(theirs), "IN {x} {y} {allowance} of {a:?}");
     ours
@@ -106,15 +137,8 @@ pub fn meet(a: &Lent, b: &Lent, allowance: u32) -> Reply {
     ours
 }
 
-pub fn agree(a: &Lent, b: &Lent, d: i32, allowance: u32) -> Reply {
-    let ours = lent::agree(
-        &a.points,
-        &a.table,
-        &b.points,
-        &b.table,
-        d.into(),
-        allowance,
-    );
+pub fn agree(a: &Lent, b: &Lent, d: i64, allowance: u32) -> Reply {
+    let ours = lent::agree(&a.points, &a.table, &b.points, &b.table, d, allowance);
     let theirs = walk::agree(a.tree(Name::A), b.tree(Name::B), d, allowance);
     assert_eq!(
         ours,
@@ -137,9 +161,9 @@ impl Dice {
     }
 
     /// From least to greatest, both taken in.
-    pub fn within(&mut self, least: i32, greatest: i32) -> i32 {
-        let span = i64::from(greatest) - i64::from(least) + 1;
-        (i64::from(least) + (self.next() % span as u64) as i64) as i32
+    pub fn within(&mut self, least: i64, greatest: i64) -> i64 {
+        let span = greatest - least + 1;
+        least + (self.next() % span as u64) as i64
     }
 
     pub fn one_of<T: Copy>(&mut self, choices: &[T]) -> T {
@@ -147,7 +171,7 @@ impl Dice {
     }
 
     /// A line of so many segments inside a square of that half width, neighbours unequal.
-    pub fn line(&mut self, segments: usize, half: i32) -> Vec<i32> {
+    pub fn line(&mut self, segments: usize, half: i64) -> Vec<i64> {
         let mut points = vec![self.within(-half, half), self.within(-half, half)];
         while points.len() < 2 * segments + 2 {
             let (x, y) = (self.within(-half, half), self.within(-half, half));
@@ -159,7 +183,7 @@ impl Dice {
     }
 
     /// A ring: its last point is its first.
-    pub fn ring(&mut self, segments: usize, half: i32) -> Vec<i32> {
+    pub fn ring(&mut self, segments: usize, half: i64) -> Vec<i64> {
         loop {
             let mut points = self.line(segments - 1, half);
             let first = [points[0], points[1]];

@@ -1,48 +1,46 @@
 //! Building: each refusal, its place, and the table that it leaves untouched; and the described table otherwise.
 
-use compare::{Dice, Lent};
-use kneukelboom::lent::{self, line, word, Reply};
+use compare::{build, Dice, Lent, WRITTEN};
+use kneukelboom::lent::{self, line, word};
 use kneukelboom::{MOST_POINTS, ROW_WIDTH, SHEET};
+use second::generate::{sound_line, stray, Random};
+use second::tree::OLD_SHEET;
+
+/// A table of so many numbers that no builder writes in this order.
+fn unwritten(room: usize) -> Vec<i64> {
+    (0..room as i64).map(|k| k * 31 - 7).collect()
+}
 
 /// Builds into a table of so many numbers and looks that a refusal leaves every one as it was.
-fn refused(points: &[i32], room: usize) -> (u32, u64) {
-    let before: Vec<i32> = (0..room as i32).map(|k| k * 31 - 7).collect();
-    let mut table = before.clone();
-    let reply = lent::build(points, &mut table);
+fn refused(points: &[i64], room: usize) -> (u32, u64) {
+    let mut table = unwritten(room);
+    let reply = build(points, &mut table);
     assert_eq!(reply.word, word::REFUSED, "{reply:?}");
     assert_eq!((reply.line, reply.visits), (line::LINE_A, 0));
-    assert_eq!(table, before, "a refused build wrote");
+    assert_eq!(table, unwritten(room), "a refused build wrote");
     (reply.number, reply.place)
 }
 
-fn taken(points: &[i32], room: usize) -> Vec<i32> {
-    let before: Vec<i32> = (0..room as i32).map(|k| k * 31 - 7).collect();
-    let mut table = before.clone();
-    let built = Reply {
-        word: word::BUILT,
-        visits: 0,
-        number: 0,
-        line: line::NO_LINE,
-        place: 0,
-    };
-    assert_eq!(lent::build(points, &mut table), built);
+fn taken(points: &[i64], room: usize) -> Vec<i64> {
+    let mut table = unwritten(room);
+    assert_eq!(build(points, &mut table), WRITTEN);
     let rows = lent::table_len(points.len());
     assert_eq!(
         table[rows..],
-        before[rows..],
+        unwritten(room)[rows..],
         "numbers past the rows stay unchanged"
     );
     table
 }
 
 /// So many points along the sheet, no two neighbours equal.
-fn long_line(points: usize) -> Vec<i32> {
-    (0..points as i32)
-        .flat_map(|k| [k * 4 - 8_192, k % 2])
+fn long_line(points: usize) -> Vec<i64> {
+    (0..points as i64)
+        .flat_map(|k| [k * 488 - 999_424, k % 2])
         .collect()
 }
 
-const L: [i32; 6] = [0, 0, 4, 3, 8, 0];
+const L: [i64; 6] = [0, 0, 4, 3, 8, 0];
 
 #[test]
 fn odd_length_is_refused_1_and_too_few_points_2() {
@@ -62,12 +60,30 @@ fn a_line_of_4097_points_is_taken_and_of_4098_refused_3() {
     assert_eq!(refused(&odd, 90_200), (1, 0), "1 is checked before 3");
 }
 
+/// Numbers off the sheet: one past it, and those of which fewer bits would be on it.
+const PAST: [i64; 14] = [
+    1_000_001,
+    -1_000_001,
+    1 << 31,
+    -(1 << 31) - 1,
+    1 << 32,
+    (1 << 32) + 7,
+    7 - (1 << 32),
+    (1 << 32) - 1,
+    1 << 62,
+    -(1 << 62),
+    i64::MAX,
+    i64::MIN,
+    i64::MIN + 7,
+    i64::MAX - 1_000_000,
+];
+
 #[test]
 fn coordinates_at_the_limit_are_taken_and_past_it_refused_4_at_the_lowest_point() {
     for limit in [SHEET, -SHEET] {
         taken(&[0, 0, limit, 1, 1, limit, limit, limit], 99);
     }
-    for past in [16_384, -16_384, i32::MAX, i32::MIN] {
+    for past in PAST {
         for place in 0..4 {
             for coordinate in 0..2 {
                 let mut points = vec![0, 0, 1, 1, 2, 0, 3, 1];
@@ -99,7 +115,7 @@ fn equal_neighbours_are_refused_5_at_the_lower_point_after_all_of_4() {
         );
     }
     assert_eq!(
-        refused(&[0, 0, 0, 0, 16_384, 0], 99),
+        refused(&[0, 0, 0, 0, 1_000_001, 0], 99),
         (4, 2),
         "4 before 5 over the whole line"
     );
@@ -124,7 +140,7 @@ fn a_table_one_number_short_is_refused_6_and_an_exact_or_longer_one_serves() {
 
 #[test]
 fn rows_are_those_written_out_by_hand() {
-    let written: [(&[i32], &[[i32; ROW_WIDTH]]); 4] = [
+    let written: [(&[i64], &[[i64; ROW_WIDTH]]); 4] = [
         // a closed run has u = (1,0); points 2 and 3 tie at c 4, and 2 is nearer to the middle
         (
             &[0, 0, 4, 0, 4, 4, 0, 4, 0, 0],
@@ -179,10 +195,30 @@ fn rows_are_those_written_out_by_hand() {
 }
 
 #[test]
+fn rows_at_the_limits_are_those_written_out_by_hand() {
+    const S: i64 = 1_000_000;
+    let (cross, whole) = (4_000_000_000_000, 8_000_000_000_000);
+    // two sides of the sheet: u is (2000000, 2000000), and the corner lies 2,000,000 to the right of the start
+    let two_sides = [
+        [0, 2, 1, -cross, 0, 0, whole, -S, S, -S, S],
+        [0, 1, -1, 0, 0, 0, cross, -S, S, -S, -S],
+        [1, 2, -1, 0, 0, 0, cross, S, S, -S, S],
+    ];
+    assert_eq!(taken(&[-S, -S, S, -S, S, S], 33), two_sides.concat());
+    // there and back: u is (1, 0), so c is py - sy and t is px - sx
+    let there_and_back = [
+        [0, 2, 1, 0, 2 * S, -2 * S, 0, -S, S, -S, S],
+        [0, 1, -1, 0, 0, 0, whole, -S, S, -S, S],
+        [1, 2, -1, 0, 0, 0, whole, -S, S, -S, S],
+    ];
+    assert_eq!(taken(&[S, -S, -S, S, S, -S], 33), there_and_back.concat());
+}
+
+#[test]
 fn the_worst_line_builds_with_every_split_at_an_end() {
     // of the points on the other side of the chord the last is always the farthest from it
-    let points: Vec<i32> = (0..MOST_POINTS as i32)
-        .flat_map(|k| [3 * k, if k % 2 == 0 { 3 * k } else { -3 * k }])
+    let points: Vec<i64> = (0..MOST_POINTS as i64)
+        .flat_map(|k| [244 * k, if k % 2 == 0 { 244 * k } else { -244 * k }])
         .collect();
     let worst = Lent::built(&points);
     for row in 0..4_095 {
@@ -190,7 +226,7 @@ fn the_worst_line_builds_with_every_split_at_an_end() {
             worst.table[ROW_WIDTH * row + 1],
             worst.table[ROW_WIDTH * row + 2],
         );
-        assert_eq!((last, split), (4_096 - row as i32, 4_095 - row as i32));
+        assert_eq!((last, split), (4_096 - row as i64, 4_095 - row as i64));
     }
 }
 
@@ -198,7 +234,7 @@ fn the_worst_line_builds_with_every_split_at_an_end() {
 fn tables_are_those_of_the_second_reading() {
     let mut dice = Dice(20_261_115);
     for round in 0..3_000 {
-        let half = dice.one_of(&[1, 2, 5, 40, 1_000, SHEET]);
+        let half = dice.one_of(&[1, 2, 5, 40, 1_000, OLD_SHEET, SHEET]);
         let segments = if round % 100 == 0 {
             300
         } else {
@@ -207,5 +243,17 @@ fn tables_are_those_of_the_second_reading() {
         let points = dice.line(segments, half);
         Lent::built(&points);
         Lent::built(&dice.ring(segments.max(3), half));
+    }
+}
+
+#[test]
+fn lines_of_every_shape_and_points_astray_build_as_the_second_reading_does() {
+    let mut random = Random(20_261_116);
+    for _ in 0..3_000 {
+        let mut points = sound_line(&mut random);
+        Lent::built(&points);
+        stray(&mut random, &mut points);
+        let mut table = unwritten(lent::table_len(points.len()) + 3);
+        build(&points, &mut table);
     }
 }

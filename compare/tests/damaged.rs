@@ -1,27 +1,55 @@
-//! Tables whatever they hold: every number of every row of small trees set to bad and odd values, rows exchanged, points moved
-//! off the sheet. Each answer, visit count and refusal is the second reading's.
+//! Tables whatever they hold: every number of every row of small trees set to bad and odd values, and of the first, an
+//! inner and the last row of a large one; rows exchanged, points moved off the sheet, strips wider than any line. Each
+//! answer, visit count and refusal is the second reading's.
 
 use compare::{agree, inside, meet, near, Dice, Lent};
+use kneukelboom::lent::word;
 use kneukelboom::{FARTHEST, ROW_WIDTH, SHEET};
+use second::generate::{asked_point, damage, distance, foreign, loosen, sound_line, stray, Random};
+use second::geometry::{all_points, plain_near, Point};
 
-const VALUES: [i32; 14] = [
-    -1,
-    0,
-    1,
-    2,
-    3,
-    4,
-    -2,
-    7,
-    SHEET,
-    SHEET + 1,
-    -SHEET,
-    -SHEET - 1,
-    i32::MIN,
-    i32::MAX,
-];
+const ENOUGH: u32 = u32::MAX;
 
-/// Lines of one to four segments, rings among them.
+/// Bad and odd numbers for a place that has this one: small ones, the limits, where 32 and 64 bits end, and such as
+/// agree with it in some of their bits.
+fn values(there: i64) -> [i64; 32] {
+    [
+        -1,
+        0,
+        1,
+        2,
+        3,
+        4,
+        -2,
+        7,
+        SHEET,
+        SHEET + 1,
+        -SHEET,
+        -SHEET - 1,
+        i64::MIN,
+        i64::MIN + 1,
+        i64::MAX,
+        1 << 31,
+        (1 << 31) - 1,
+        -(1 << 31),
+        -(1 << 31) - 1,
+        1 << 32,
+        -(1 << 32),
+        1 << 43,
+        1 << 62,
+        -(1 << 62),
+        there.wrapping_add(1),
+        there.wrapping_sub(1),
+        there.wrapping_add(1 << 31),
+        there.wrapping_add(1 << 32),
+        there.wrapping_sub(1 << 32),
+        there.wrapping_add(1 << 62),
+        there.wrapping_add(i64::MIN),
+        there.wrapping_neg(),
+    ]
+}
+
+/// Lines of one to four segments, rings among them, small and over the whole sheet.
 fn small_lines() -> Vec<Lent> {
     [
         &[0, 0, 4, 3][..],
@@ -29,6 +57,7 @@ fn small_lines() -> Vec<Lent> {
         &[0, 0, 4, 0, 4, 4, 0, 0],
         &[0, 0, 4, 0, 4, 4, 0, 4, 0, 0],
         &[-SHEET, -SHEET, SHEET, SHEET, SHEET, -SHEET, -SHEET, SHEET],
+        &[-SHEET, -SHEET, SHEET, -SHEET, 0, SHEET, -SHEET, -SHEET],
     ]
     .into_iter()
     .map(Lent::built)
@@ -37,7 +66,13 @@ fn small_lines() -> Vec<Lent> {
 
 fn ask_all(damaged: &Lent, sound: &Lent) {
     for allowance in [0, 1, 2, 3, 100] {
-        for (x, y, d) in [(4, 5, 2), (2, 1, 0), (9, 9, 3), (-SHEET, SHEET, FARTHEST)] {
+        for (x, y, d) in [
+            (4, 5, 2),
+            (2, 1, 0),
+            (9, 9, 3),
+            (-SHEET, SHEET, FARTHEST),
+            (SHEET, 0, 1_414_213),
+        ] {
             near(damaged, x, y, d, allowance);
             inside(damaged, x, y, allowance);
         }
@@ -53,10 +88,38 @@ fn every_number_of_every_row_set_to_bad_and_odd_values() {
     let sound = Lent::built(&[1, 1, 3, 2, 6, 0]);
     for line in small_lines() {
         for k in 0..line.table.len() {
-            for value in VALUES {
+            for value in values(line.table[k]) {
                 let mut damaged = line.clone();
                 damaged.table[k] = value;
                 ask_all(&damaged, &sound);
+            }
+        }
+    }
+}
+
+#[test]
+fn every_number_of_the_first_an_inner_and_the_last_row_of_a_large_tree() {
+    let mut dice = Dice(7);
+    let line = Lent::built(&dice.ring(200, SHEET));
+    let other = Lent::built(&dice.line(150, SHEET));
+    let last = 2 * 200 - 2;
+    for row in [0, 1, last / 2, last - 1, last] {
+        let first = line.table[ROW_WIDTH * row] as usize;
+        let (x, y) = (line.points[2 * first], line.points[2 * first + 1]);
+        for k in ROW_WIDTH * row..ROW_WIDTH * (row + 1) {
+            for value in values(line.table[k]) {
+                let mut damaged = line.clone();
+                damaged.table[k] = value;
+                for d in [0, 1_000, FARTHEST] {
+                    near(&damaged, x, y, d, ENOUGH);
+                    near(&damaged, y, x, d, ENOUGH);
+                }
+                inside(&damaged, x, y, ENOUGH);
+                inside(&damaged, y, x, ENOUGH);
+                meet(&damaged, &other, ENOUGH);
+                meet(&other, &damaged, ENOUGH);
+                agree(&damaged, &other, SHEET, ENOUGH);
+                agree(&other, &damaged, SHEET, ENOUGH);
             }
         }
     }
@@ -67,7 +130,7 @@ fn points_moved_after_the_build() {
     let sound = Lent::built(&[1, 1, 3, 2, 6, 0]);
     for line in small_lines() {
         for k in 0..line.points.len() {
-            for value in VALUES {
+            for value in values(line.points[k]) {
                 let mut damaged = line.clone();
                 damaged.points[k] = value;
                 ask_all(&damaged, &sound);
@@ -81,22 +144,88 @@ fn rows_of_other_nodes_and_numbers_at_random() {
     let mut dice = Dice(6);
     let sound = Lent::built(&[1, 1, 3, 2, 6, 0]);
     for round in 0..1_500 {
-        let mut damaged = Lent::built(&dice.ring(3 + round % 12, 9));
+        let half = dice.one_of(&[9, SHEET]);
+        let mut damaged = Lent::built(&dice.ring(3 + round % 12, half));
         let rows = (damaged.points.len() / 2 - 1) * 2 - 1;
         for _ in 0..=round % 3 {
-            let (to, from) = (
-                dice.within(0, rows as i32 - 1) as usize,
-                dice.within(0, rows as i32 - 1) as usize,
-            );
+            let mut row = || dice.within(0, rows as i64 - 1) as usize;
+            let (to, from) = (row(), row());
             if round % 2 == 0 {
                 damaged
                     .table
                     .copy_within(ROW_WIDTH * from..ROW_WIDTH * (from + 1), ROW_WIDTH * to);
             } else {
-                damaged.table[ROW_WIDTH * to + dice.within(0, ROW_WIDTH as i32 - 1) as usize] =
-                    dice.one_of(&VALUES);
+                let column = dice.within(0, ROW_WIDTH as i64 - 1) as usize;
+                let number = &mut damaged.table[ROW_WIDTH * to + column];
+                *number = dice.one_of(&values(*number));
             }
         }
         ask_all(&damaged, &sound);
+    }
+}
+
+/// A point to ask a line about, on the sheet or not, and a distance, permitted or not.
+fn asked(random: &mut Random, line: &Lent) -> (Point, i64) {
+    let points: Vec<Point> = all_points(&line.points).collect();
+    let (mut z, mut d) = (asked_point(random, &points), distance(random, 9));
+    if random.one_in(9) {
+        z.x = foreign(random, z.x);
+    }
+    if random.one_in(9) {
+        z.y = foreign(random, z.y);
+    }
+    if random.one_in(9) {
+        d = foreign(random, d);
+    }
+    (z, d)
+}
+
+/// Asks with a small allowance and with one that suffices for any two lines of 257 points.
+fn ask_both(random: &mut Random, a: &Lent, b: &Lent) {
+    for allowance in [random.between(0, 9) as u32, ENOUGH] {
+        let (z, d) = asked(random, a);
+        near(a, z.x, z.y, d, allowance);
+        inside(a, z.x, z.y, allowance);
+        meet(a, b, allowance);
+        meet(b, a, allowance);
+        agree(a, b, d, allowance);
+    }
+}
+
+#[test]
+fn foreign_numbers_in_tables_and_points_of_every_shape() {
+    let mut random = Random(88);
+    for round in 0..4_000 {
+        let mut lines = [(); 2].map(|()| Lent::built(&sound_line(&mut random)));
+        match round % 4 {
+            0 => lines
+                .iter_mut()
+                .for_each(|line| damage(&mut random, &mut line.table)),
+            1 => damage(&mut random, &mut lines[0].table),
+            2 => stray(&mut random, &mut lines[0].points),
+            _ => stray(&mut random, &mut lines[1].points),
+        }
+        let [a, b] = &lines;
+        ask_both(&mut random, a, b);
+    }
+}
+
+/// Their strips reach to -2^63 and 2^63 - 1, and still hold all their points.
+#[test]
+fn looser_tables_are_answered_as_plain_geometry_says() {
+    let mut random = Random(89);
+    for _ in 0..2_000 {
+        let mut lines = [(); 2].map(|()| Lent::built(&sound_line(&mut random)));
+        for line in &mut lines {
+            loosen(&mut random, &mut line.table);
+        }
+        let [a, b] = &lines;
+        ask_both(&mut random, a, b);
+        let points: Vec<Point> = all_points(&a.points).collect();
+        let (z, d) = (asked_point(&mut random, &points), random.between(0, SHEET));
+        let reply = near(a, z.x, z.y, d, ENOUGH);
+        if reply.word != word::REFUSED {
+            assert_eq!(reply.word == word::YES, plain_near(&a.points, z, d));
+        }
     }
 }

@@ -1,10 +1,13 @@
-//! The four questions on built tables: word, visits, refusal, line and place are those of the second reading, and a decided
-//! word is the plain geometry's.
+//! The four questions on built tables: word, visits, refusal, line and place are those of the second reading, and a
+//! decided word is the plain geometry's.
 
 use compare::{agree, inside, meet, near, Dice, Lent};
 use kneukelboom::lent::word;
 use kneukelboom::{FARTHEST, SHEET};
-use second::geometry::{plain_astray, plain_meet, plain_near, plain_side, Point, Side};
+use second::generate::{asked_point, distance, sound_line, tight, Random};
+use second::geometry::{all_points, plain_astray, plain_meet, plain_near, plain_side};
+use second::geometry::{Name, Point, Side};
+use second::tree::OLD_SHEET;
 
 const ENOUGH: u32 = u32::MAX;
 
@@ -16,7 +19,7 @@ fn allowances(exact: u32) -> [u32; 5] {
 fn near_is_the_plain_answer_and_counts_as_the_second_reading() {
     let mut dice = Dice(2);
     for round in 0..4_000 {
-        let half = dice.one_of(&[2, 6, 40, SHEET]);
+        let half = dice.one_of(&[2, 6, 40, OLD_SHEET, SHEET]);
         let line = Lent::built(&dice.line(1 + round % 30, half));
         let z = Point {
             x: dice.within(-half, half),
@@ -37,24 +40,31 @@ fn near_checks_7_before_8_and_both_after_the_lengths() {
     let line = Lent::built(&[0, 0, 4, 3, 8, 0]);
     for (x, y, d, number) in [
         (4, 5, -1, 7),
-        (4, 5, 32_768, 7),
-        (16_384, 0, -1, 7),
-        (16_384, 0, 2, 8),
-        (0, i32::MIN, 2, 8),
+        (4, 5, 2_000_001, 7),
+        (4, 5, (1 << 32) + 2, 7),
+        (4, 5, i64::MIN, 7),
+        (4, 5, i64::MAX, 7),
+        (1_000_001, 0, -1, 7),
+        (1_000_001, 0, 2, 8),
+        (4 + (1 << 32), 5, 2, 8),
+        (4, 5 - (1 << 32), 2, 8),
+        (4, i64::MIN + 5, 2, 8),
+        (0, i64::MIN, 2, 8),
+        (i64::MAX, 0, 2, 8),
     ] {
         assert_eq!(near(&line, x, y, d, 9).number, number);
     }
     assert_eq!(near(&line, 4, 5, FARTHEST, 9).word, word::YES);
     let mut short = line.clone();
     short.table.truncate(32);
-    assert_eq!(near(&short, 16_384, 0, -1, 9).number, 6);
+    assert_eq!(near(&short, 1_000_001, 0, -1, 9).number, 6);
 }
 
 #[test]
 fn meet_is_the_plain_answer_both_ways_round() {
     let mut dice = Dice(3);
     for round in 0..4_000 {
-        let half = dice.one_of(&[2, 5, 30, SHEET]);
+        let half = dice.one_of(&[2, 5, 30, OLD_SHEET, SHEET]);
         let a = Lent::built(&dice.line(1 + round % 17, half));
         let b = Lent::built(&dice.line(1 + round % 13, half));
         let reply = meet(&a, &b, ENOUGH);
@@ -111,7 +121,7 @@ fn side_word(side: Side) -> u32 {
 fn inside_is_the_plain_side_of_any_ring() {
     let mut dice = Dice(4);
     for round in 0..4_000 {
-        let half = dice.one_of(&[2, 4, 9, 60, SHEET]);
+        let half = dice.one_of(&[2, 4, 9, 60, OLD_SHEET, SHEET]);
         let ring = Lent::built(&dice.ring(3 + round % 20, half));
         let z = Point {
             x: dice.within(-half, half),
@@ -165,7 +175,7 @@ fn a_ring_of_4_points_is_taken_of_3_and_an_open_line_refused_9() {
         9
     );
     assert_eq!(
-        inside(&Lent::built(&[0, 0, 4, 0, 0, 0]), 16_384, 1, 9).number,
+        inside(&Lent::built(&[0, 0, 4, 0, 0, 0]), 1_000_001, 1, 9).number,
         8,
         "8 before 9"
     );
@@ -175,7 +185,7 @@ fn a_ring_of_4_points_is_taken_of_3_and_an_open_line_refused_9() {
 fn agree_is_the_plain_answer_and_names_the_first_point_astray() {
     let mut dice = Dice(5);
     for round in 0..2_000 {
-        let half = dice.one_of(&[2, 6, 40, SHEET]);
+        let half = dice.one_of(&[2, 6, 40, OLD_SHEET, SHEET]);
         let a = Lent::built(&dice.line(1 + round % 9, half));
         let b = Lent::built(&dice.line(1 + round % 11, half));
         let d = dice.one_of(&[0, 1, half / 2, half, FARTHEST]);
@@ -189,6 +199,47 @@ fn agree_is_the_plain_answer_and_names_the_first_point_astray() {
                 agree(&a, &b, d, allowance).word == word::UNDECIDED,
                 allowance < reply.visits
             );
+        }
+    }
+}
+
+/// c² is D²·|u|², or 1 beside it, on the whole sheet: where fewer than 128 bits, or a rounded number, would err.
+#[test]
+fn near_turns_on_the_last_unit() {
+    let mut random = Random(8);
+    for _ in 0..20_000 {
+        let asked = tight(&mut random);
+        let segment = Lent::built(&asked.points);
+        let reply = near(&segment, asked.z.x, asked.z.y, asked.d, ENOUGH);
+        assert_eq!(reply.word == word::YES, asked.within, "{asked:?}");
+    }
+}
+
+#[test]
+fn lines_of_every_shape_over_the_sheet_are_answered_as_plain_geometry_says() {
+    let mut random = Random(81);
+    for _ in 0..3_000 {
+        let [a, b] = [(); 2].map(|()| Lent::built(&sound_line(&mut random)));
+        let points: Vec<Point> = all_points(&a.points).collect();
+        let (z, d) = (asked_point(&mut random, &points), distance(&mut random, 9));
+        let of_a = near(&a, z.x, z.y, d, ENOUGH);
+        if of_a.word != word::REFUSED {
+            assert_eq!(of_a.word == word::YES, plain_near(&a.points, z, d));
+        }
+        let side = inside(&a, z.x, z.y, ENOUGH);
+        if side.word != word::REFUSED {
+            assert_eq!(side.word, side_word(plain_side(&a.points, z)));
+        }
+        let shared = meet(&a, &b, ENOUGH).word == word::YES;
+        assert_eq!(shared, plain_meet(&a.points, &b.points));
+        let both = agree(&a, &b, d, ENOUGH);
+        if both.word != word::REFUSED {
+            let astray = plain_astray(&a.points, &b.points, d);
+            let named = astray.map_or((0, 0), |(name, at)| {
+                (if name == Name::A { 1 } else { 2 }, at as u64)
+            });
+            assert_eq!(both.word == word::YES, astray.is_none());
+            assert_eq!((both.line, both.place), named);
         }
     }
 }

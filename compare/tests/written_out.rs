@@ -1,11 +1,17 @@
 //! What the rules say, written out number by number where definition, code and second reading could err alike: which
 //! of two reasons to refuse is told, and what a strip dismisses. `compare` asks both readings each time.
 
-use compare::{agree, inside, meet, near, Lent};
+use compare::{agree, build, inside, meet, near, widen, Lent, WRITTEN};
 use kneukelboom::lent::{line, word, Reply};
 use kneukelboom::{FARTHEST, ROW_WIDTH};
 
-const L: [i32; 6] = [0, 0, 4, 3, 8, 0];
+const L: [i64; 6] = [0, 0, 4, 3, 8, 0];
+/// Its table, as it was in 32 bits.
+const TABLE_OF_L: [i32; 33] = [
+    0, 2, 1, 0, 24, 0, 64, 0, 8, 0, 3, // the root
+    0, 1, -1, 0, 0, 0, 25, 0, 4, 0, 3, // its left half
+    1, 2, -1, 0, 0, 0, 25, 4, 8, 0, 3, // its right half
+];
 
 fn says(word: u32, visits: u32) -> Reply {
     Reply {
@@ -28,7 +34,7 @@ fn refused(number: u32, line: u32, place: u64, visits: u32) -> Reply {
 
 /// Lines that are refused for their lengths, each with its number: the first of 1, 2, 3, 6 that holds.
 fn unfit() -> Vec<(u32, Lent)> {
-    let lent = |points: &[i32], numbers: usize| Lent {
+    let lent = |points: &[i64], numbers: usize| Lent {
         points: points.to_vec(),
         table: vec![0; numbers],
     };
@@ -48,16 +54,32 @@ fn unfit() -> Vec<(u32, Lent)> {
 }
 
 /// The built line with one number of its table changed.
-fn changed(points: &[i32], row: usize, column: usize, value: i32) -> Lent {
+fn changed(points: &[i64], row: usize, column: usize, value: i64) -> Lent {
     let mut line = Lent::built(points);
     line.table[ROW_WIDTH * row + column] = value;
     line
 }
 
-/// Lines of which the root row is bad, with the reason: each that the rules name.
-fn bad_roots() -> Vec<(&'static str, Lent)> {
-    let row_of_l = |column: usize, value: i32| changed(&L, 0, column, value);
-    let moved = |line: &[i32], points: &[i32]| Lent {
+/// Lines of which the root row is bad, with the reason: each that the rules name, and each column in its high bits.
+fn bad_roots() -> Vec<(String, Lent)> {
+    let named = bad_by_the_rules().into_iter();
+    let named = named.map(|(why, line)| (why.to_string(), line));
+    let high = (0..ROW_WIDTH).map(|column| {
+        // cmin and tmin may be as low as they like
+        let more = if [3, 5].contains(&column) {
+            1 << 32
+        } else {
+            i64::MIN
+        };
+        let line = changed(&L, 0, column, i64::from(TABLE_OF_L[column]) + more);
+        (format!("column {column} is right in its low 32 bits"), line)
+    });
+    named.chain(high).collect()
+}
+
+fn bad_by_the_rules() -> Vec<(&'static str, Lent)> {
+    let row_of_l = |column: usize, value: i64| changed(&L, 0, column, value);
+    let moved = |line: &[i64], points: &[i64]| Lent {
         points: points.to_vec(),
         ..Lent::built(line)
     };
@@ -75,18 +97,24 @@ fn bad_roots() -> Vec<(&'static str, Lent)> {
         ("tmax below 0", row_of_l(6, -1)),
         ("x reversed", row_of_l(7, 9)),
         ("y reversed", row_of_l(9, 4)),
-        ("xmin off the sheet", row_of_l(7, -16_384)),
-        ("xmax off the sheet", row_of_l(8, 16_384)),
-        ("ymin off the sheet", row_of_l(9, -16_384)),
-        ("ymax off the sheet", row_of_l(10, 16_384)),
-        ("first off the sheet", moved(&L, &[16_384, 0, 4, 3, 8, 0])),
-        ("last off the sheet", moved(&L, &[0, 0, 4, 3, 8, -16_384])),
+        ("xmin off the sheet", row_of_l(7, -1_000_001)),
+        ("xmax off the sheet", row_of_l(8, 1_000_001)),
+        ("ymin off the sheet", row_of_l(9, -1_000_001)),
+        ("ymax off the sheet", row_of_l(10, 1_000_001)),
+        (
+            "first off the sheet",
+            moved(&L, &[1_000_001, 0, 4, 3, 8, 0]),
+        ),
+        (
+            "last off the sheet",
+            moved(&L, &[0, 0, 4, 3, 8, -1_000_001]),
+        ),
         ("a leaf's points equal", moved(&[0, 0, 4, 3], &[4, 3, 4, 3])),
     ]
 }
 
 /// The table with the range of that row made wrong.
-fn bad_at(points: &[i32], row: usize) -> Lent {
+fn bad_at(points: &[i64], row: usize) -> Lent {
     let mut line = Lent::built(points);
     line.table[ROW_WIDTH * row] += 1;
     line
@@ -117,8 +145,8 @@ fn meet_checks_a_wholly_before_b() {
 fn agree_checks_b_before_the_distance() {
     let (sound, bad_root) = (Lent::built(&L), bad_at(&L, 0));
     let mut off = Lent::built(&L);
-    off.points[0] = 16_384;
-    for d in [-1, FARTHEST + 1, i32::MIN, i32::MAX, 0, FARTHEST] {
+    off.points[0] = 1_000_001;
+    for d in [-1, FARTHEST + 1, i64::MIN, i64::MAX, 0, FARTHEST] {
         for (number, a) in &unfit() {
             for (_, b) in &unfit() {
                 assert_eq!(agree(a, b, d, 9), refused(*number, line::LINE_A, 0, 0));
@@ -131,7 +159,7 @@ fn agree_checks_b_before_the_distance() {
         }
     }
     // 7 with no line, before a point or a row is looked at and before a visit is due
-    for d in [-1, 32_768, i32::MIN, i32::MAX] {
+    for d in [-1, 2_000_001, 2 + (1 << 32), i64::MIN, i64::MAX] {
         for a in [&sound, &bad_root, &off] {
             for b in [&sound, &bad_root, &off] {
                 assert_eq!(agree(a, b, d, 0), refused(7, line::NO_LINE, 0, 0));
@@ -183,7 +211,7 @@ fn meet_reads_a_before_b() {
 
 /// Three sides of a diamond: u is (1, 1), c is y - x and -2 to 0, t is x + y and 0 to 2, the box is 0 to 2 by -1 to 1.
 /// Each corner of the box lies outside another side of the strip.
-const DIAMOND: [i32; 8] = [0, 0, 1, -1, 2, 0, 1, 1];
+const DIAMOND: [i64; 8] = [0, 0, 1, -1, 2, 0, 1, 1];
 
 /// A split or a range that would lead past the last row is refused at the row that tells it, on its visit.
 #[test]
@@ -192,6 +220,7 @@ fn a_row_that_leads_astray_is_10_at_its_own_row() {
     for (row, column, value, visits) in [
         (0, split, 2, 1),
         (0, split, 2_000_000_000, 1),
+        (0, split, i64::MAX, 1),
         (0, last, 3, 1),
         (2, split, 1, 3),
     ] {
@@ -221,7 +250,7 @@ fn meet_asks_both_strips_by_c_and_by_t() {
 
 /// The root splits at point 2. Points 0 to 2: c is 2y - 2x and -6 to 0, t is 2x + 2y and 0 to 10, the box the ring's.
 /// Points 2 to 4: c is 2x - 2y and 0 to 4, t is 8 - 2x - 2y and 0 to 8, the box 0 to 3 by 0 to 2.
-const DENTED: [i32; 10] = [0, 0, 4, 1, 2, 2, 3, 1, 0, 0];
+const DENTED: [i64; 10] = [0, 0, 4, 1, 2, 2, 3, 1, 0, 0];
 
 #[test]
 fn in_asks_t() {
@@ -239,4 +268,100 @@ fn in_asks_c() {
     assert_eq!(inside(&ring, 4, 0, 9), says(word::OUTSIDE, 3));
     // c is -6, and t is 6: two leaves; c is 6, above 4, and t is 2
     assert_eq!(inside(&ring, 3, 0, 9), says(word::OUTSIDE, 5));
+}
+
+/// From corner to corner of the sheet: |u|² is 8,000,000,000,000.
+const DIAGONAL: [i64; 4] = [-1_000_000, -1_000_000, 1_000_000, 1_000_000];
+
+#[test]
+fn the_row_of_the_sheets_diagonal() {
+    let row = [
+        0,
+        1,
+        -1,
+        0,
+        0,
+        0,
+        8_000_000_000_000,
+        -1_000_000,
+        1_000_000,
+        -1_000_000,
+        1_000_000,
+    ];
+    assert_eq!(Lent::built(&DIAGONAL).table[..ROW_WIDTH], row);
+}
+
+/// c is 4,000,000,000,000 below or above 0, and c² is 16·10^24. D²·|u|² is 15.999987..·10^24 at D 1,414,213, and
+/// 16.0000099..·10^24 at D 1,414,214.
+#[test]
+fn the_sheets_other_corner_lies_between_1414213_and_1414214_from_the_diagonal() {
+    let diagonal = Lent::built(&DIAGONAL);
+    for (d, answer) in [
+        (0, word::NO),
+        (1_414_213, word::NO),
+        (1_414_214, word::YES),
+        (2_000_000, word::YES),
+    ] {
+        assert_eq!(
+            near(&diagonal, 1_000_000, -1_000_000, d, 9),
+            says(answer, 1)
+        );
+        assert_eq!(
+            near(&diagonal, -1_000_000, 1_000_000, d, 9),
+            says(answer, 1)
+        );
+    }
+    for d in [2_000_001, -1] {
+        let refusal = refused(7, line::NO_LINE, 0, 0);
+        assert_eq!(near(&diagonal, 1_000_000, -1_000_000, d, 9), refusal);
+    }
+    let refusal = refused(8, line::NO_LINE, 0, 0);
+    assert_eq!(near(&diagonal, 1_000_001, 0, 2, 9), refusal);
+}
+
+#[test]
+fn a_coordinate_of_1000000_is_built_and_1000001_refused_4() {
+    let mut table = [5; 12];
+    assert_eq!(build(&[0, 0, 1_000_000, 0], &mut table), WRITTEN);
+    assert_eq!(
+        table,
+        [0, 1, -1, 0, 0, 0, 1_000_000_000_000, 0, 1_000_000, 0, 0, 5]
+    );
+    let refusal = refused(4, line::LINE_A, 1, 0);
+    assert_eq!(build(&[0, 0, 1_000_001, 0], &mut [5; 12]), refusal);
+}
+
+#[test]
+fn a_box_side_past_the_old_sheet_is_good_and_past_the_new_one_bad() {
+    let xmax = 8;
+    let wide = changed(&L, 0, xmax, 16_384);
+    assert_eq!(near(&wide, 4, 5, 2, 9), says(word::YES, 2));
+    let off = changed(&L, 0, xmax, 1_000_001);
+    assert_eq!(near(&off, 4, 5, 2, 9), refused(10, line::LINE_A, 0, 1));
+}
+
+/// c is -72 and |u|² is 64: a cmin of 0 dismisses the root, and one of -2^63 does not. Of both leaves c is -48 and |u|²
+/// is 25: they are dismissed.
+#[test]
+fn a_cmin_of_the_least_number_is_no_shortfall() {
+    let cmin = 3;
+    assert_eq!(near(&Lent::built(&L), 4, -9, 1, 9), says(word::NO, 1));
+    let loose = changed(&L, 0, cmin, i64::MIN);
+    assert_eq!(near(&loose, 4, -9, 1, 9), says(word::NO, 3));
+}
+
+#[test]
+fn the_table_of_l_is_widened_into_35_numbers_and_refused_6_into_32() {
+    let mut room = [5; 35];
+    assert_eq!(widen(&TABLE_OF_L, &mut room), WRITTEN);
+    let mut built = [5; 35];
+    assert_eq!(build(&L, &mut built), WRITTEN);
+    assert_eq!(room, built);
+    assert_eq!(room[33..], [5, 5]);
+    let mut short = [5; 32];
+    assert_eq!(
+        widen(&TABLE_OF_L, &mut short),
+        refused(6, line::NO_LINE, 0, 0)
+    );
+    assert_eq!(short, [5; 32]);
 }

@@ -50,7 +50,7 @@ from . import library
 from .answer import Agreement, Answer, Side, Word
 from .refusal import Refusal
 
-__all__ = ["Agreement", "Answer", "Line", "Refusal", "Side", "Word"]
+__all__ = ["Agreement", "Answer", "Line", "Refusal", "Side", "Word", "widen"]
 for _public in Agreement, Answer, Refusal, Side, Word:
     _public.__module__ = __name__
 
@@ -58,10 +58,10 @@ for _public in Agreement, Answer, Refusal, Side, Word:
 FEWEST_POINTS = 2
 #: .. and at most 4,097.
 MOST_POINTS = 4097
-#: Coordinates are -16,383 to 16,383.
-SHEET = 16383
-#: Distances are 0 to 32,767.
-FARTHEST = 32767
+#: Coordinates are -1,000,000 to 1,000,000.
+SHEET = 1000000
+#: Distances are 0 to 2,000,000.
+FARTHEST = 2000000
 #: Allowances are 0 to 4,294,967,295.
 MOST_VISITS = 2**32 - 1
 #: Numbers of a table row.
@@ -113,8 +113,8 @@ class Line:
     def _build(self, numbers: List[int]) -> None:
         # A line that is too short or too long is refused before its table is looked at: no need for the room.
         segments = len(numbers) // 2 - 1 if FEWEST_POINTS <= len(numbers) // 2 <= MOST_POINTS else 0
-        self._points = array("i", (_held(number, 32) for number in numbers))
-        self._table = array("i", [0]) * (ROW_WIDTH * max(2 * segments - 1, 0))
+        self._points = array("q", map(_held, numbers))
+        self._table = array("q", [0]) * (ROW_WIDTH * max(2 * segments - 1, 0))
         self._lent = library.lent(self._points) + library.lent(self._table)
         self._depth = 0
         library.ask("build", segments, lambda: segments, *self._lent)
@@ -150,7 +150,7 @@ class Line:
         >>> line.near((4, 5), distance=2, allowance=1).decided is None
         True
         """
-        asked = _asked(point) + (_held(_whole(distance, "the distance"), 64),)
+        asked = _asked(point) + (_held(_whole(distance, "the distance")),)
         visits = _allowance(allowance, self.enough_visits)
         reply = library.ask("near", self.segments, self._levels, *self._lent, *asked, visits)
         return Answer(Word(reply.word), reply.visits)
@@ -206,7 +206,7 @@ class Line:
         >>> answer.decided, answer.line, answer.point
         (False, 'B', 1)
         """
-        held = _held(_whole(distance, "the distance"), 64)
+        held = _held(_whole(distance, "the distance"))
         visits = _allowance(allowance, partial(self.enough_to_agree, _other(other)))
         reply = library.ask(
             "agree",
@@ -269,6 +269,32 @@ class Line:
         return self._depth
 
 
+def widen(numbers: Iterable[SupportsIndex]) -> array[int]:
+    """Points or a table that version 1 of the library stored, in the 64-bit numbers that they are now.
+
+    A table that version 1 built, widened, is number by number the one that is built for the widened points now. What
+    does not fit 32 bits is a `ValueError`.
+
+    >>> from array import array
+    >>> stored = array("i", [0, 0, 4, 3, 8, 0])
+    >>> widen(stored)
+    array('q', [0, 0, 4, 3, 8, 0])
+    >>> Line.from_numbers(widen(stored))
+    <Line of 3 points, (0, 0) to (8, 0)>
+    """
+    old = array("i", (_narrow(number, index) for index, number in enumerate(numbers)))
+    wide = array("q", [0]) * len(old)
+    library.ask("widen", 0, lambda: 0, *library.lent(old), *library.lent(wide))
+    return wide
+
+
+def _narrow(number: SupportsIndex, index: int) -> int:
+    whole = _whole(number, "number", index)
+    if not -(2**31) <= whole < 2**31:
+        raise ValueError(f"number {index} does not fit 32 bits: {whole}")
+    return whole
+
+
 def _whole(number: SupportsIndex, *what: object) -> int:
     try:
         return operator.index(number)
@@ -284,14 +310,14 @@ def _pair(point: Point, *what: object) -> Tuple[int, int]:
         raise TypeError(f"{' '.join(map(str, what))} is no pair of whole numbers: {point!r}") from None
 
 
-def _held(number: int, bits: int) -> int:
-    """The nearest number that fits so many bits. It is off the sheet, or no distance, just where the number is."""
-    most = (1 << (bits - 1)) - 1
+def _held(number: int) -> int:
+    """The nearest number that fits 64 bits. It is off the sheet, or no distance, just where the number is."""
+    most = 2**63 - 1
     return min(max(number, -most), most)
 
 
 def _asked(point: Point) -> Tuple[int, ...]:
-    return tuple(_held(number, 64) for number in _pair(point, "the asked point"))
+    return tuple(map(_held, _pair(point, "the asked point")))
 
 
 def _other(line: Line) -> Line:

@@ -1,4 +1,4 @@
-"""The five calls of the proved library: the shared object, where it is found, and what C passes to it."""
+"""The six calls of the proved library: the shared object, where it is found, and what C passes to it."""
 
 from __future__ import annotations
 
@@ -14,7 +14,7 @@ from . import stack
 from .refusal import Refusal
 
 #: Of kneukelboom.h; the symbol of each call ends in it.
-VERSION = 1
+VERSION = 2
 FILE = f"libkneukelboom.so.{VERSION}"
 
 REFUSED = 7
@@ -33,9 +33,12 @@ class Reply(ctypes.Structure):
     ]
 
 
-_line = [ctypes.POINTER(ctypes.c_int32), ctypes.c_size_t] * 2  # its points, then its table
+_old = [ctypes.POINTER(ctypes.c_int32), ctypes.c_size_t]
+_wide = [ctypes.POINTER(ctypes.c_int64), ctypes.c_size_t]
+_line = _wide * 2  # its points, then its table
 PARAMETERS = {
     "build": _line,
+    "widen": _old + _wide,
     "near": _line + [ctypes.c_int64] * 3 + [ctypes.c_uint32],
     "inside": _line + [ctypes.c_int64] * 2 + [ctypes.c_uint32],
     "meet": _line * 2 + [ctypes.c_uint32],
@@ -45,7 +48,8 @@ PARAMETERS = {
 
 def lent(numbers: array[int]) -> Tuple[Any, int]:
     """An array as the calls take it: where its numbers are, which it keeps for as long, and how many."""
-    return (ctypes.byref(ctypes.c_int32.from_buffer(numbers)) if numbers else None), len(numbers)
+    of = {"i": ctypes.c_int32, "q": ctypes.c_int64}[numbers.typecode]
+    return (ctypes.byref(of.from_buffer(numbers)) if numbers else None), len(numbers)
 
 
 def ask(name: str, most: int, levels: Callable[[], int], *passed: Any) -> Reply:

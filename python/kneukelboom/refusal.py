@@ -6,7 +6,7 @@ from typing import Optional
 
 
 class Refusal(ValueError):
-    """Why a line was not built or a question was not answered.
+    """Why a line was not built, numbers were not widened or a question was not answered.
 
     Each number comes exactly when its reason is the first, in a fixed order, that holds. `line` is "A" (the line asked)
     or "B" (the other), whichever is at fault, or None; `place` a point (4, 5, 8 of agree) or a row (10), counted
@@ -26,6 +26,8 @@ class Refusal(ValueError):
 
     def _reason(self) -> str:
         line, place = f"line {self.line}", self.place
+        if self.number == 6 and self.line is None:
+            return "the list to widen into is shorter than the list of 32-bit numbers"
         if self.number == 8 and self.line is None:
             return "the asked point is off the sheet"
         return {
@@ -35,7 +37,7 @@ class Refusal(ValueError):
             4: f"point {place} of {line} is off the sheet",
             5: f"points {place} and {place + 1} of {line} are equal",
             6: f"the table of {line} is too short for its points",
-            7: "the distance is not from 0 to 32,767",
+            7: "the distance is not from 0 to 2,000,000",
             8: f"point {place} of {line} is off the sheet",
             9: f"{line} is no ring: it has fewer than 4 points, or does not end where it begins",
             10: f"row {place} of the table of {line} is bad (visit {self.visits})",

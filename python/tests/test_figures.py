@@ -2,22 +2,25 @@
 is held to them, and to the figures at each limit."""
 
 import unittest
+from array import array
 from pathlib import Path
 
-from kneukelboom import Agreement, Answer, Line, Refusal, Side, Word
+from kneukelboom import Agreement, Answer, Line, Refusal, Side, Word, library, widen
 
 L = Line([(0, 0), (4, 3), (8, 0)])
 S = Line([(0, 0), (4, 0), (4, 4), (0, 4), (0, 0)])
 CASES = Path(__file__).resolve().parents[2] / "cases"
 
 
-class Figures(unittest.TestCase):
+class Refused(unittest.TestCase):
     def refused(self, number, line, place, ask, *asked):
         with self.assertRaises(Refusal) as caught:
             ask(*asked)
         refusal = caught.exception
         self.assertEqual((number, line, place, 0), (refusal.number, refusal.line, refusal.place, refusal.visits))
 
+
+class Figures(Refused):
     def test_p1_rows_of_l(self):
         rows = (
             (0, 2, 1, 0, 24, 0, 64, 0, 8, 0, 3),
@@ -72,10 +75,11 @@ class Figures(unittest.TestCase):
         self.assertTrue(Line([(-50, 913), (6515, 8185)]).near((4922, 8447), 1358))
         self.assertFalse(Line([(0, -16383), (5137, -16382)]).near((-1, -6109), 10274))
 
-    def test_coordinates_to_16383(self):
-        self.assertEqual(2, len(Line([(16383, -16383), (-16383, 16383)])))
-        for off in (16384, 0), (-16384, 0), (0, 16384), (0, -(2**31)), (2**31, 0), (0, 2**32 + 1), (-(10**30), 0):
-            self.refused(4, "A", 1, Line, [(0, 0), off, off])
+    def test_coordinates_to_1000000(self):
+        self.assertEqual(2, len(Line([(1000000, -1000000), (-1000000, 1000000)])))
+        for off in 1000001, -1000001, 2**32 + 1, 2**63 - 1, 2**63, -(2**63), 2**64 + 1, -(10**30):
+            self.refused(4, "A", 1, Line, [(0, 0), (off, 0), (off, 0)])
+            self.refused(4, "A", 1, Line, [(0, 0), (0, off), (0, off)])
 
     def test_points_to_4097(self):
         self.assertEqual(4096, Line([(x, 0) for x in range(4097)]).segments)
@@ -88,27 +92,70 @@ class Figures(unittest.TestCase):
         self.refused(3, "A", 0, Line.from_numbers, [0] * 20000)
 
     def test_neighbours_after_all_coordinates(self):
-        self.refused(4, "A", 2, Line, [(1, 1), (1, 1), (0, 16384)])
+        self.refused(4, "A", 2, Line, [(1, 1), (1, 1), (0, 1000001)])
         self.refused(5, "A", 1, Line, [(0, 0), (1, 1), (1, 1), (1, 1)])
 
-    def test_distances_to_32767(self):
-        self.assertTrue(L.near((4, 5), 32767))
-        self.assertTrue(L.agrees(S, 32767))
-        for distance in 32768, -1, 2**64, 2**64 + 2, -(2**64):
+    def test_distances_to_2000000(self):
+        self.assertTrue(L.near((4, 5), 2000000))
+        self.assertTrue(L.agrees(S, 2000000))
+        for distance in 2000001, -1, 2**64, 2**64 + 2, -(2**64):
             self.refused(7, None, 0, L.near, (4, 5), distance)
-            self.refused(7, None, 0, L.near, (20000, 5), distance)
+            self.refused(7, None, 0, L.near, (1000001, 5), distance)
             self.refused(7, None, 0, L.agrees, S, distance)
 
     def test_asked_points_on_the_sheet(self):
-        self.assertFalse(L.near((16383, -16383), 0))
-        for off in (16384, 0), (0, -16384), (2**64, 0), (0, -(2**70)):
+        self.assertFalse(L.near((1000000, -1000000), 0))
+        for off in (1000001, 0), (0, -1000001), (2**64, 0), (0, -(2**70)):
             self.refused(8, None, 0, L.near, off, 2)
             self.refused(8, None, 0, L.side, off)
+
+    def test_the_sheets_diagonal(self):
+        low, high = -1000000, 1000000
+        line = Line([(low, low), (high, high)])
+        self.assertEqual(((0, 1, -1, 0, 0, 0, 8 * 10**12, low, high, low, high),), line.table)
+        for corner in (high, low), (low, high):
+            self.assertEqual(Answer(Word.NO, 1), line.near(corner, 1414213))
+            self.assertEqual(Answer(Word.YES, 1), line.near(corner, 1414214))
+            self.assertEqual(Answer(Word.YES, 1), line.near(corner, 2000000))
+
+    def test_exactly_that_far_is_within_where_squares_pass_64_bits(self):
+        line = Line([(-999000, -1000), (999000, 999)])
+        self.assertTrue(line.near((-99900, 899000), 899100))
+        self.assertFalse(line.near((-99900, 899000), 899099))
+        self.assertFalse(line.near((-101899, 898998), 899100))
+        self.assertTrue(line.near((-97901, 899002), 899100))
 
     def test_rings_from_4_points(self):
         self.assertEqual(Word.INSIDE, Line([(0, 0), (4, 0), (0, 4), (0, 0)]).side((1, 1)).word)
         self.refused(9, "A", 0, Line([(0, 0), (4, 0), (0, 0)]).side, (1, 1))
         self.refused(9, "A", 0, Line([(0, 0), (4, 0), (4, 4), (0, 4)]).side, (1, 1))
+
+
+class Widening(Refused):
+    def widened(self, old, wide):
+        library.ask("widen", 0, lambda: 0, *library.lent(old), *library.lent(wide))
+
+    def test_any_numbers_of_any_length(self):
+        for length in 0, 1, 2, 33, 8196, 90102:
+            old = [(-(2**31), 2**31 - 1, -1, index)[index % 4] for index in range(length)]
+            self.assertEqual(array("q", old), widen(old))
+            self.assertEqual(array("q", old), widen(array("i", old)))
+            self.assertEqual(array("q", old), widen(iter(old)))
+
+    def test_a_widened_table_is_the_built_one(self):
+        built = [number for row in L.table for number in row]
+        old, wide, short = array("i", built), array("q", [5]) * 35, array("q", [5]) * 32
+        self.refused(6, None, 0, self.widened, old, short)
+        self.assertEqual([5] * 32, short.tolist())
+        self.widened(old, wide)
+        self.assertEqual(built + [5, 5], wide.tolist())
+
+    def test_32_bits_alone(self):
+        for number in 2**31, -(2**31) - 1, 10**30:
+            with self.assertRaisesRegex(ValueError, f"^number 1 does not fit 32 bits: {number}$"):
+                widen([0, number])
+        with self.assertRaisesRegex(TypeError, "^number 0 is no whole number: 1.5$"):
+            widen([1.5])
 
 
 class Sentences(unittest.TestCase):

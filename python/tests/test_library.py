@@ -22,7 +22,7 @@ TYPES = {
 
 
 def declared(text):
-    """`const int32_t *points` as ctypes has it, and its name."""
+    """`const int64_t *points` as ctypes has it, and its name."""
     of, pointer, name = re.fullmatch(r"(?:const )?(\w+) (\*?)(\w+)", " ".join(text.split())).groups()
     return ctypes.POINTER(TYPES[of]) if pointer else TYPES[of], name
 
@@ -68,7 +68,9 @@ class Header(unittest.TestCase):
 
     def test_stack(self):
         self.assertEqual(set(library.PARAMETERS), set(stack.A_LEVEL))
-        for name, own in stack.A_LEVEL.items():
+        levels = dict(stack.A_LEVEL)
+        self.assertEqual(0, levels.pop("widen"))
+        for name, own in levels.items():
             macro = {"build": "BUILD", "meet": "MEET"}.get(name, "WALK")
             figures = re.search(rf"STACK_{macro}\(segments\) \((\d+) \+ (\d+) \* \(segments\)\)", HEADER)
             self.assertEqual((stack.ON_TOP, own), tuple(map(int, figures.groups())))
@@ -76,11 +78,11 @@ class Header(unittest.TestCase):
 
 class SharedObject(unittest.TestCase):
     def test_one_that_is_named_is_taken_or_told_of(self):
-        with mock.patch.dict(os.environ, KNEUKELBOOM_LIB="/nowhere/libkneukelboom.so.1"):
-            with self.assertRaisesRegex(ImportError, "^/nowhere/libkneukelboom.so.1 cannot be loaded: "):
+        with mock.patch.dict(os.environ, KNEUKELBOOM_LIB="/nowhere/libkneukelboom.so.2"):
+            with self.assertRaisesRegex(ImportError, "^/nowhere/libkneukelboom.so.2 cannot be loaded: "):
                 library._load()
         with mock.patch.dict(os.environ, KNEUKELBOOM_LIB="libc.so.6"):
-            with self.assertRaisesRegex(ImportError, "^libc.so.6 is not of version 1: "):
+            with self.assertRaisesRegex(ImportError, "^libc.so.6 is not of version 2: "):
                 library._load()
 
     def test_one_that_is_missing_is_told_how_to_make(self):

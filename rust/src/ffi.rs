@@ -1,4 +1,4 @@
-//! The only unsafe code of this crate: the five functions of the proved archive, each behind a safe one, and what is
+//! The only unsafe code of this crate: the six functions of the proved archive, each behind a safe one, and what is
 //! to be known of a thread's stack.
 //!
 //! Why the calls are sound:
@@ -11,26 +11,30 @@
 //! - A slice passes as pointer and length and the reply by value, by the C calling convention of x86-64.
 //!
 //! What is not proved: that the stack is deep enough. Calls nest at most n deep, n + m for `meet`, with n and m at
-//! most 4,096: no call may be made but through [`room::with`](crate::room::with).
+//! most 4,096: no call may be made but through [`room::with`](crate::room::with). `widen` alone does not nest.
 
 use std::arch::asm;
 
 use crate::lent::Reply;
 
 extern "C" {
-    #[link_name = "kneukelboom_build_v1"]
+    #[link_name = "kneukelboom_build_v2"]
     fn kneukelboom_build(
-        points: *const i32,
+        points: *const i64,
         points_len: usize,
-        table: *mut i32,
+        table: *mut i64,
         table_len: usize,
     ) -> Reply;
 
-    #[link_name = "kneukelboom_near_v1"]
+    #[link_name = "kneukelboom_widen_v2"]
+    fn kneukelboom_widen(old: *const i32, old_len: usize, wide: *mut i64, wide_len: usize)
+        -> Reply;
+
+    #[link_name = "kneukelboom_near_v2"]
     fn kneukelboom_near(
-        points: *const i32,
+        points: *const i64,
         points_len: usize,
-        table: *const i32,
+        table: *const i64,
         table_len: usize,
         x: i64,
         y: i64,
@@ -38,39 +42,39 @@ extern "C" {
         allowance: u32,
     ) -> Reply;
 
-    #[link_name = "kneukelboom_inside_v1"]
+    #[link_name = "kneukelboom_inside_v2"]
     fn kneukelboom_inside(
-        points: *const i32,
+        points: *const i64,
         points_len: usize,
-        table: *const i32,
+        table: *const i64,
         table_len: usize,
         x: i64,
         y: i64,
         allowance: u32,
     ) -> Reply;
 
-    #[link_name = "kneukelboom_meet_v1"]
+    #[link_name = "kneukelboom_meet_v2"]
     fn kneukelboom_meet(
-        points_a: *const i32,
+        points_a: *const i64,
         points_a_len: usize,
-        table_a: *const i32,
+        table_a: *const i64,
         table_a_len: usize,
-        points_b: *const i32,
+        points_b: *const i64,
         points_b_len: usize,
-        table_b: *const i32,
+        table_b: *const i64,
         table_b_len: usize,
         allowance: u32,
     ) -> Reply;
 
-    #[link_name = "kneukelboom_agree_v1"]
+    #[link_name = "kneukelboom_agree_v2"]
     fn kneukelboom_agree(
-        points_a: *const i32,
+        points_a: *const i64,
         points_a_len: usize,
-        table_a: *const i32,
+        table_a: *const i64,
         table_a_len: usize,
-        points_b: *const i32,
+        points_b: *const i64,
         points_b_len: usize,
-        table_b: *const i32,
+        table_b: *const i64,
         table_b_len: usize,
         distance: i64,
         allowance: u32,
@@ -78,7 +82,7 @@ extern "C" {
 }
 
 #[inline]
-pub fn build(points: &[i32], table: &mut [i32]) -> Reply {
+pub fn build(points: &[i64], table: &mut [i64]) -> Reply {
     // SAFETY: slices, and one of them `&mut`: see the top of this file.
     unsafe {
         kneukelboom_build(
@@ -91,7 +95,13 @@ pub fn build(points: &[i32], table: &mut [i32]) -> Reply {
 }
 
 #[inline]
-pub fn near(points: &[i32], table: &[i32], x: i64, y: i64, distance: i64, allowance: u32) -> Reply {
+pub fn widen(old: &[i32], wide: &mut [i64]) -> Reply {
+    // SAFETY: slices, and one of them `&mut`: see the top of this file.
+    unsafe { kneukelboom_widen(old.as_ptr(), old.len(), wide.as_mut_ptr(), wide.len()) }
+}
+
+#[inline]
+pub fn near(points: &[i64], table: &[i64], x: i64, y: i64, distance: i64, allowance: u32) -> Reply {
     // SAFETY: slices, only read: see the top of this file.
     unsafe {
         kneukelboom_near(
@@ -108,7 +118,7 @@ pub fn near(points: &[i32], table: &[i32], x: i64, y: i64, distance: i64, allowa
 }
 
 #[inline]
-pub fn inside(points: &[i32], table: &[i32], x: i64, y: i64, allowance: u32) -> Reply {
+pub fn inside(points: &[i64], table: &[i64], x: i64, y: i64, allowance: u32) -> Reply {
     // SAFETY: slices, only read: see the top of this file.
     unsafe {
         kneukelboom_inside(
@@ -125,10 +135,10 @@ pub fn inside(points: &[i32], table: &[i32], x: i64, y: i64, allowance: u32) -> 
 
 #[inline]
 pub fn meet(
-    points_a: &[i32],
-    table_a: &[i32],
-    points_b: &[i32],
-    table_b: &[i32],
+    points_a: &[i64],
+    table_a: &[i64],
+    points_b: &[i64],
+    table_b: &[i64],
     allowance: u32,
 ) -> Reply {
     // SAFETY: slices, only read: see the top of this file.
@@ -149,10 +159,10 @@ pub fn meet(
 
 #[inline]
 pub fn agree(
-    points_a: &[i32],
-    table_a: &[i32],
-    points_b: &[i32],
-    table_b: &[i32],
+    points_a: &[i64],
+    table_a: &[i64],
+    points_b: &[i64],
+    table_b: &[i64],
     distance: i64,
     allowance: u32,
 ) -> Reply {

@@ -2,7 +2,7 @@
 //!
 //! For those who keep points and tables in memory of their own. Points lie as x, y, x, y. Every call takes
 //! every input: damaged or foreign tables get refusal 10 where a row that is read is bad. [`crate::Line`] is
-//! the same with vectors of its own.
+//! the same with vectors of its own. [`widen`] takes points and tables that were stored as 32-bit numbers.
 //!
 //! The answers are plain geometry's over a table that [`build`] wrote for these points. A table from elsewhere
 //! whose rows look good, but whose strips or boxes leave points out, is not found out, and a no or an outside
@@ -32,7 +32,7 @@ use crate::{ffi, room, ROW_WIDTH};
 
 /// The words of a [`Reply`], as in `kneukelboom.h`.
 pub mod word {
-    /// `build`: the table is written.
+    /// `build`: the table is written; `widen`: the numbers are.
     pub const BUILT: u32 = 0;
     /// `near`, `meet`, `agree`.
     pub const YES: u32 = 1;
@@ -70,7 +70,7 @@ pub const fn table_len(points_len: usize) -> usize {
 }
 
 /// Levels that the tree of a line can have: no more than its points.
-fn levels(points: &[i32]) -> usize {
+fn levels(points: &[i64]) -> usize {
     points.len() / 2
 }
 
@@ -80,9 +80,34 @@ fn levels(points: &[i32]) -> usize {
 /// # Panics
 /// If a thread is needed and cannot be started: [Threads and stack](crate#threads-and-stack).
 #[inline]
-pub fn build(points: &[i32], table: &mut [i32]) -> Reply {
+pub fn build(points: &[i64], table: &mut [i64]) -> Reply {
     let need = room::build(levels(points));
     room::with!(need, ffi::build(points, table))
+}
+
+/// Writes each of the old numbers, points or a table of 32 bits as version 1 of the library had them, to the front of
+/// the wide ones: [`built`](Reply::built), or refused 6 and nothing is written, where fewer wide numbers are lent. Any
+/// lengths and any numbers; wide numbers past the old ones stay unchanged.
+///
+/// A table that version 1 built, widened, is number by number the one that [`build`] writes for the widened points.
+///
+/// ```
+/// use kneukelboom::lent;
+///
+/// let old: [i32; 11] = [0, 1, -1, 0, 0, 0, 25, 0, 4, 0, 3];
+/// let mut wide = [5; 12];
+/// lent::widen(&old, &mut wide).built()?;
+/// let mut built = [5; 12];
+/// lent::build(&[0, 0, 4, 3], &mut built).built()?;
+/// assert_eq!(wide, built);
+///
+/// let refusal = lent::widen(&old, &mut wide[..10]).built().unwrap_err();
+/// assert_eq!((refusal.number, refusal.line), (6, None));
+/// # Ok::<(), kneukelboom::Refusal>(())
+/// ```
+#[inline]
+pub fn widen(old: &[i32], wide: &mut [i64]) -> Reply {
+    ffi::widen(old, wide)
 }
 
 /// Is (x, y) within the distance of some segment of the line?
@@ -90,7 +115,7 @@ pub fn build(points: &[i32], table: &mut [i32]) -> Reply {
 /// # Panics
 /// If a thread is needed and cannot be started: [Threads and stack](crate#threads-and-stack).
 #[inline]
-pub fn near(points: &[i32], table: &[i32], x: i64, y: i64, distance: i64, allowance: u32) -> Reply {
+pub fn near(points: &[i64], table: &[i64], x: i64, y: i64, distance: i64, allowance: u32) -> Reply {
     let need = room::walk(levels(points));
     room::with!(need, ffi::near(points, table, x, y, distance, allowance))
 }
@@ -100,7 +125,7 @@ pub fn near(points: &[i32], table: &[i32], x: i64, y: i64, distance: i64, allowa
 /// # Panics
 /// If a thread is needed and cannot be started: [Threads and stack](crate#threads-and-stack).
 #[inline]
-pub fn inside(points: &[i32], table: &[i32], x: i64, y: i64, allowance: u32) -> Reply {
+pub fn inside(points: &[i64], table: &[i64], x: i64, y: i64, allowance: u32) -> Reply {
     let need = room::walk(levels(points));
     room::with!(need, ffi::inside(points, table, x, y, allowance))
 }
@@ -111,10 +136,10 @@ pub fn inside(points: &[i32], table: &[i32], x: i64, y: i64, allowance: u32) -> 
 /// If a thread is needed and cannot be started: [Threads and stack](crate#threads-and-stack).
 #[inline]
 pub fn meet(
-    points_a: &[i32],
-    table_a: &[i32],
-    points_b: &[i32],
-    table_b: &[i32],
+    points_a: &[i64],
+    table_a: &[i64],
+    points_b: &[i64],
+    table_b: &[i64],
     allowance: u32,
 ) -> Reply {
     let need = room::meet(levels(points_a) + levels(points_b));
@@ -130,10 +155,10 @@ pub fn meet(
 /// If a thread is needed and cannot be started: [Threads and stack](crate#threads-and-stack).
 #[inline]
 pub fn agree(
-    points_a: &[i32],
-    table_a: &[i32],
-    points_b: &[i32],
-    table_b: &[i32],
+    points_a: &[i64],
+    table_a: &[i64],
+    points_b: &[i64],
+    table_b: &[i64],
     distance: i64,
     allowance: u32,
 ) -> Reply {
@@ -161,14 +186,14 @@ pub struct Reply {
 }
 
 impl Reply {
-    /// Of [`build`].
+    /// Of [`build`] and [`widen`].
     ///
     /// # Panics
     /// If this is the reply of a question.
     pub fn built(self) -> Result<(), Refusal> {
         match self.decided()? {
             word::BUILT => Ok(()),
-            other => unreachable!("a build does not say word {other}"),
+            other => unreachable!("build and widen do not say word {other}"),
         }
     }
 

@@ -30,12 +30,13 @@
 //! ```
 //! # use kneukelboom::Line;
 //! let line = Line::new(&[(0, 0), (4, 3), (8, 0)])?;
-//! let refusal = line.near((4, 5), 40_000, 9).unwrap_err();
-//! assert_eq!(refusal.to_string(), "refused 7: the distance is not from 0 to 32,767");
+//! let refusal = line.near((4, 5), 2_000_001, 9).unwrap_err();
+//! assert_eq!(refusal.to_string(), "refused 7: the distance is not from 0 to 2,000,000");
 //! # Ok::<(), kneukelboom::Refusal>(())
 //! ```
 //!
-//! [`lent`] has the same calls over slices that the caller lends: no heap, nothing copied.
+//! [`lent`] has the same calls over slices that the caller lends: no heap, nothing copied. [`widen`] takes points and
+//! tables that version 1 of the library stored, in 32-bit numbers.
 //!
 //! # Threads and stack
 //!
@@ -82,10 +83,10 @@ struct Readme;
 pub const FEWEST_POINTS: usize = 2;
 /// .. and at most 4,097.
 pub const MOST_POINTS: usize = 4_097;
-/// Coordinates are -16,383 to 16,383.
-pub const SHEET: i32 = 16_383;
-/// Distances are 0 to 32,767.
-pub const FARTHEST: i32 = 32_767;
+/// Coordinates are -1,000,000 to 1,000,000.
+pub const SHEET: i64 = 1_000_000;
+/// Distances are 0 to 2,000,000.
+pub const FARTHEST: i64 = 2_000_000;
 /// Numbers of a table row.
 pub const ROW_WIDTH: usize = 11;
 
@@ -101,8 +102,8 @@ pub const ARCHIVE: &str = env!("KNEUKELBOOM_ARCHIVE");
 #[derive(Clone)]
 pub struct Line {
     /// x, y, x, y
-    points: Vec<i32>,
-    table: Vec<i32>,
+    points: Vec<i64>,
+    table: Vec<i64>,
     /// Of the tree: how many rows lie on its longest way down.
     levels: usize,
 }
@@ -121,26 +122,31 @@ impl Line {
     ///
     /// # Panics
     /// If a thread is needed and cannot be started: [Threads and stack](crate#threads-and-stack).
-    pub fn new(points: &[(i32, i32)]) -> Result<Line, Refusal> {
+    pub fn new(points: &[(i64, i64)]) -> Result<Line, Refusal> {
         Line::from_points(points.iter().copied())
     }
 
-    /// The same from whatever gives points. (`collect` cannot refuse, so a line is no `FromIterator`.)
+    /// The same from whatever gives points, of 64-bit coordinates or of narrower ones. (`collect` cannot refuse, so a
+    /// line is no `FromIterator`.)
     ///
     /// ```
     /// # use kneukelboom::Line;
     /// let metres = [(0, 0), (10, 7), (20, 0)];
     /// let line = Line::from_points(metres.iter().map(|(x, y)| (16 * x, 16 * y)))?;
     /// assert_eq!(line, Line::new(&[(0, 0), (160, 112), (320, 0)])?);
+    /// let narrow: Vec<(i32, i32)> = vec![(0, 0), (160, 112), (320, 0)];
+    /// assert_eq!(line, Line::from_points(narrow)?);
     /// # Ok::<(), kneukelboom::Refusal>(())
     /// ```
     ///
     /// # Panics
     /// If a thread is needed and cannot be started: [Threads and stack](crate#threads-and-stack).
-    pub fn from_points(points: impl IntoIterator<Item = (i32, i32)>) -> Result<Line, Refusal> {
+    pub fn from_points<N: Into<i64>>(
+        points: impl IntoIterator<Item = (N, N)>,
+    ) -> Result<Line, Refusal> {
         // One point too many is refused whatever follows it: no need to read on.
         let read = points.into_iter().take(MOST_POINTS + 1);
-        Line::from_numbers(read.flat_map(|(x, y)| [x, y]).collect())
+        Line::from_numbers(read.flat_map(|(x, y)| [x.into(), y.into()]).collect())
     }
 
     /// The same from coordinates x, y, x, y; the vector is kept, not copied.
@@ -154,7 +160,7 @@ impl Line {
     ///
     /// # Panics
     /// If a thread is needed and cannot be started: [Threads and stack](crate#threads-and-stack).
-    pub fn from_numbers(points: Vec<i32>) -> Result<Line, Refusal> {
+    pub fn from_numbers(points: Vec<i64>) -> Result<Line, Refusal> {
         // A line that is too long is refused before its table is looked at: no need for the room.
         let most = lent::table_len(2 * MOST_POINTS);
         let mut table = vec![0; lent::table_len(points.len()).min(most)];
@@ -168,7 +174,7 @@ impl Line {
     }
 
     /// The coordinates, x, y, x, y.
-    pub fn points(&self) -> &[i32] {
+    pub fn points(&self) -> &[i64] {
         &self.points
     }
 
@@ -178,7 +184,7 @@ impl Line {
     /// # use kneukelboom::Line;
     /// let line = Line::new(&[(0, 0), (4, 3), (8, 0)])?;
     /// assert_eq!(line.iter().len(), 3);
-    /// let back: Vec<(i32, i32)> = line.iter().rev().collect();
+    /// let back: Vec<(i64, i64)> = line.iter().rev().collect();
     /// assert_eq!(back, [(8, 0), (4, 3), (0, 0)]);
     /// let highest = (&line).into_iter().map(|(_, y)| y).max();
     /// assert_eq!(highest, Some(3));
@@ -189,7 +195,7 @@ impl Line {
     }
 
     /// The rows of the tree in preorder, [`ROW_WIDTH`] numbers each.
-    pub fn table(&self) -> &[i32] {
+    pub fn table(&self) -> &[i64] {
         &self.table
     }
 
@@ -215,12 +221,11 @@ impl Line {
     /// If a thread is needed and cannot be started: [Threads and stack](crate#threads-and-stack).
     pub fn near(
         &self,
-        point: (i32, i32),
-        distance: i32,
+        (x, y): (i64, i64),
+        distance: i64,
         allowance: u32,
     ) -> Result<Answer, Refusal> {
-        let (x, y) = (point.0.into(), point.1.into());
-        let (distance, need) = (distance.into(), room::walk(self.levels));
+        let need = room::walk(self.levels);
         let (points, table) = self.lent();
         room::with!(need, ffi::near(points, table, x, y, distance, allowance)).answer()
     }
@@ -241,8 +246,7 @@ impl Line {
     ///
     /// # Panics
     /// If a thread is needed and cannot be started: [Threads and stack](crate#threads-and-stack).
-    pub fn inside(&self, point: (i32, i32), allowance: u32) -> Result<Side, Refusal> {
-        let (x, y) = (point.0.into(), point.1.into());
+    pub fn inside(&self, (x, y): (i64, i64), allowance: u32) -> Result<Side, Refusal> {
         let need = room::walk(self.levels);
         let (points, table) = self.lent();
         room::with!(need, ffi::inside(points, table, x, y, allowance)).side()
@@ -293,12 +297,11 @@ impl Line {
     pub fn agrees(
         &self,
         other: &Line,
-        distance: i32,
+        distance: i64,
         allowance: u32,
     ) -> Result<Agreement, Refusal> {
         let need = room::walk(self.levels.max(other.levels));
         let ((p, t), (q, u)) = (self.lent(), other.lent());
-        let distance = distance.into();
         room::with!(need, ffi::agree(p, t, q, u, distance, allowance)).agreement()
     }
 
@@ -319,7 +322,7 @@ impl Line {
     }
 
     /// Points and table, for a call.
-    fn lent(&self) -> (&[i32], &[i32]) {
+    fn lent(&self) -> (&[i64], &[i64]) {
         (&self.points, &self.table)
     }
 
@@ -351,7 +354,7 @@ impl fmt::Debug for Line {
 }
 
 impl<'a> IntoIterator for &'a Line {
-    type Item = (i32, i32);
+    type Item = (i64, i64);
     type IntoIter = Points<'a>;
 
     fn into_iter(self) -> Points<'a> {
@@ -359,32 +362,51 @@ impl<'a> IntoIterator for &'a Line {
     }
 }
 
-impl TryFrom<&[(i32, i32)]> for Line {
+impl TryFrom<&[(i64, i64)]> for Line {
     type Error = Refusal;
 
-    fn try_from(points: &[(i32, i32)]) -> Result<Line, Refusal> {
+    fn try_from(points: &[(i64, i64)]) -> Result<Line, Refusal> {
         Line::new(points)
     }
 }
 
-impl TryFrom<Vec<(i32, i32)>> for Line {
+impl TryFrom<Vec<(i64, i64)>> for Line {
     type Error = Refusal;
 
-    fn try_from(points: Vec<(i32, i32)>) -> Result<Line, Refusal> {
+    fn try_from(points: Vec<(i64, i64)>) -> Result<Line, Refusal> {
         Line::new(&points)
     }
 }
 
-impl<const N: usize> TryFrom<[(i32, i32); N]> for Line {
+impl<const N: usize> TryFrom<[(i64, i64); N]> for Line {
     type Error = Refusal;
 
-    fn try_from(points: [(i32, i32); N]) -> Result<Line, Refusal> {
+    fn try_from(points: [(i64, i64); N]) -> Result<Line, Refusal> {
         Line::new(&points)
     }
+}
+
+/// Points or a table that version 1 of the library stored, in the 64-bit numbers that they are now.
+///
+/// [`lent::widen`] is the same into numbers that the caller lends.
+///
+/// ```
+/// use kneukelboom::{widen, Line};
+///
+/// let stored: [i32; 6] = [0, 0, 4, 3, 8, 0];
+/// let line = Line::from_numbers(widen(&stored))?;
+/// assert_eq!(line, Line::new(&[(0, 0), (4, 3), (8, 0)])?);
+/// # Ok::<(), kneukelboom::Refusal>(())
+/// ```
+pub fn widen(old: &[i32]) -> Vec<i64> {
+    let mut wide = vec![0; old.len()];
+    let widened = lent::widen(old, &mut wide).built();
+    widened.expect("as many numbers are lent");
+    wide
 }
 
 /// The levels of a built table's tree. Rows stand in preorder, a node before its halves, and a leaf's split is -1.
-fn levels(table: &[i32]) -> usize {
+fn levels(table: &[i64]) -> usize {
     let mut due = vec![1];
     let mut deepest = 0;
     for row in table.chunks_exact(ROW_WIDTH) {

@@ -21,13 +21,13 @@ impl fmt::Display for Name {
     }
 }
 
-/// Why a build or a question was refused. Each number comes exactly when its reason is the first, in a fixed order,
-/// that holds. Its constants name the numbers, in the words of `kneukelboom.h`.
+/// Why a build, a widening or a question was refused. Each number comes exactly when its reason is the first, in a
+/// fixed order, that holds. Its constants name the numbers, in the words of `kneukelboom.h`.
 ///
 /// ```
 /// use kneukelboom::{Line, Refusal};
 ///
-/// let refusal = Line::new(&[(0, 0), (16_384, 0)]).unwrap_err();
+/// let refusal = Line::new(&[(0, 0), (1_000_001, 0)]).unwrap_err();
 /// assert_eq!(refusal.number, Refusal::POINT_OFF_SHEET);
 /// assert_eq!(refusal.to_string(), "refused 4: point 1 of line A is off the sheet");
 /// ```
@@ -54,9 +54,9 @@ impl Refusal {
     pub const POINT_OFF_SHEET: u32 = 4;
     /// Building: two neighbours that are equal.
     pub const EQUAL_NEIGHBOURS: u32 = 5;
-    /// A table that is too short for its points.
+    /// A table that is too short for its points, or a list that is shorter than the one to widen.
     pub const SHORT_TABLE: u32 = 6;
-    /// A distance outside 0 to 32,767.
+    /// A distance outside 0 to 2,000,000.
     pub const DISTANCE: u32 = 7;
     /// An asked point off the sheet.
     pub const ASKED_OFF_SHEET: u32 = 8;
@@ -92,7 +92,11 @@ impl fmt::Display for Refusal {
             (Refusal::SHORT_TABLE, Some(line)) => {
                 write!(f, "the table of {line} is too short for its points")
             }
-            (Refusal::DISTANCE, _) => write!(f, "the distance is not from 0 to 32,767"),
+            (Refusal::SHORT_TABLE, None) => write!(
+                f,
+                "the list to widen into is shorter than the list of 32-bit numbers"
+            ),
+            (Refusal::DISTANCE, _) => write!(f, "the distance is not from 0 to 2,000,000"),
             (Refusal::ASKED_OFF_SHEET, None) => write!(f, "the asked point is off the sheet"),
             (Refusal::NO_RING, Some(line)) => write!(
                 f,

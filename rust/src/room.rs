@@ -19,7 +19,7 @@ pub const fn build(levels: usize) -> usize {
 
 /// Of a walk down one tree, in `near`, `inside` and `agree`.
 pub const fn walk(levels: usize) -> usize {
-    256 + 160 * levels
+    256 + 192 * levels
 }
 
 /// Of `meet`, for the levels of both trees together.

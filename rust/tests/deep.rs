@@ -40,14 +40,14 @@ fn pairs() -> &'static [(Line, Line)] {
             (saw(0), saw(1)),
             (reversed(saw(0)), comb_ring()),
         ];
-        let line = |points: Vec<(i32, i32)>| Line::new(&points).unwrap();
+        let line = |points: Vec<(i64, i64)>| Line::new(&points).unwrap();
         pairs.map(|(a, b)| (line(a), line(b))).into()
     })
 }
 
 /// The levels of a table's tree, counted by its nodes' runs of points.
-fn levels(table: &[i32]) -> usize {
-    let mut above: Vec<i32> = Vec::new();
+fn levels(table: &[i64]) -> usize {
+    let mut above: Vec<i64> = Vec::new();
     let mut deepest = 0;
     for row in table.chunks(ROW_WIDTH) {
         let (first, last) = (row[0], row[1]);
@@ -62,7 +62,7 @@ fn levels(table: &[i32]) -> usize {
 
 #[test]
 fn deep_lines_are_built() {
-    let built = |points: &[(i32, i32)]| {
+    let built = |points: &[(i64, i64)]| {
         let table = || Line::new(points).unwrap().table().to_vec();
         levels(&the_same_on_each_stack(table))
     };

@@ -1,4 +1,4 @@
-//! Three texts declare the same five functions and one struct: the proved source
+//! Three texts declare the same six functions and one struct: the proved source
 //! `crates/kneukelboom_c/src/lib.rt`, the C header `include/kneukelboom.h`, and this crate's `src/ffi.rs` and
 //! `src/lent.rs`. Each is read here into an `Interface` in C's words, and any difference in a name, an order or a
 //! type fails. The self-test alters each text in every way that matters and demands that it is found out.
@@ -117,11 +117,17 @@ fn interface(reply: Vec<Named>, mut functions: Vec<Function>) -> Read {
 
 // ---- Rattle and Rust
 
-/// A type of Rattle or Rust in C's words; a slice is a pointer and a length.
+/// A type of Rattle or Rust in C's words; a slice is a pointer and a length. C++ keeps `new` for itself: what Rattle
+/// calls so is `wide`.
 fn in_c(name: &str, of: &str) -> Result<Vec<Named>, String> {
+    let name = if name == "new" { "wide" } else { name };
     let named = |name: &str, of: &str| Named {
         name: name.to_string(),
         of: of.to_string(),
+    };
+    let slice = |pointer| {
+        let length = named(&format!("{name}_len"), "size_t");
+        Ok(vec![named(name, pointer), length])
     };
     let of = of.split_whitespace().collect::<Vec<_>>().join(" ");
     let one = match of.as_str() {
@@ -130,18 +136,11 @@ fn in_c(name: &str, of: &str) -> Result<Vec<Named>, String> {
         "i64" => "int64_t",
         "usize" => "size_t",
         "*const i32" => "const int32_t *",
-        "*mut i32" => "int32_t *",
-        "&[i32]" | "&mut [i32]" => {
-            let pointer = if of.starts_with("&mut") {
-                "int32_t *"
-            } else {
-                "const int32_t *"
-            };
-            return Ok(vec![
-                named(name, pointer),
-                named(&format!("{name}_len"), "size_t"),
-            ]);
-        }
+        "*const i64" => "const int64_t *",
+        "*mut i64" => "int64_t *",
+        "&[i32]" => return slice("const int32_t *"),
+        "&[i64]" => return slice("const int64_t *"),
+        "&mut [i64]" => return slice("int64_t *"),
         _ => {
             return Err(format!(
                 "{name} has a type that C's header has no word for: {of}"
@@ -199,8 +198,8 @@ fn function<'a>(text: &'a str, reply: &str) -> Result<(Function, &'a str), Strin
     Ok((function, rest))
 }
 
-/// What the Rattle source exports. A function that is marked by halves, or that asks something of its caller, is an error: the header
-/// promises that whatever is passed is answered.
+/// What the Rattle source exports. A function that is marked by halves, or that asks something of its caller, is an
+/// error: the header promises that whatever is passed is answered.
 fn rattle(text: &str) -> Read {
     let text = without_comments(text);
     let (name, reply) = repr_c_struct(&text)?;
@@ -371,9 +370,8 @@ fn rust_is_the_header() {
     let (c, own) = (header(&header_text()).unwrap(), rust(&rust_text()).unwrap());
     assert_eq!(c, own, "\nthe header:\n{c}\nRust:\n{own}");
     let names: Vec<&str> = own.functions.iter().map(|f| f.name.as_str()).collect();
-    let five =
-        ["agree", "build", "inside", "meet", "near"].map(|name| format!("kneukelboom_{name}"));
-    assert_eq!(names, five);
+    let six = ["agree", "build", "inside", "meet", "near", "widen"];
+    assert_eq!(names, six.map(|name| format!("kneukelboom_{name}")));
 }
 
 #[test]
@@ -474,43 +472,50 @@ pub struct Reply {
 }
 
 #[no_mangle]
-pub extern "C" fn kneukelboom_build_v1(points: &[i32], table: &mut [i32]) -> Reply
+pub extern "C" fn kneukelboom_build_v2(points: &[i64], table: &mut [i64]) -> Reply
     ensures { λ r. ⌜ r ≡ said (now (points .entry)) ⌝ }
 {
     told(points, table)
 }
 
-fn told(points: &[i32]) -> Reply
+fn told(points: &[i64]) -> Reply
     requires { ⌜ 1 ≤ 2 ⌝ }
 {
     Reply { word: 0, visits: 0, number: 0, line: 0, place: 0 }
 }
 
 #[no_mangle]
-pub extern "C" fn kneukelboom_near_v1(points: &[i32], table: &[i32], x: i64, y: i64, distance: i64, allowance: u32) -> Reply {
+pub extern "C" fn kneukelboom_widen_v2(old: &[i32], new: &mut [i64]) -> Reply {
+    told(old, new)
+}
+
+#[no_mangle]
+pub extern "C" fn kneukelboom_near_v2(
+    points: &[i64], table: &[i64], x: i64, y: i64, distance: i64, allowance: u32) -> Reply {
     told(points, table)
 }
 
 #[no_mangle]
-pub extern "C" fn kneukelboom_inside_v1(points: &[i32], table: &[i32], x: i64, y: i64, allowance: u32) -> Reply { told(points) }
+pub extern "C" fn kneukelboom_inside_v2(
+    points: &[i64], table: &[i64], x: i64, y: i64, allowance: u32) -> Reply { told(points) }
 
 #[no_mangle]
-pub extern "C" fn kneukelboom_meet_v1(
-    points_a: &[i32],
-    table_a: &[i32],
-    points_b: &[i32],
-    table_b: &[i32],
+pub extern "C" fn kneukelboom_meet_v2(
+    points_a: &[i64],
+    table_a: &[i64],
+    points_b: &[i64],
+    table_b: &[i64],
     allowance: u32,
 ) -> Reply {
     told(points_a)
 }
 
 #[no_mangle]
-pub extern "C" fn kneukelboom_agree_v1(
-    points_a: &[i32],
-    table_a: &[i32],
-    points_b: &[i32],
-    table_b: &[i32],
+pub extern "C" fn kneukelboom_agree_v2(
+    points_a: &[i64],
+    table_a: &[i64],
+    points_b: &[i64],
+    table_b: &[i64],
     distance: i64,
     allowance: u32,
 ) -> Reply {
@@ -541,13 +546,20 @@ fn altered_rattle_is_found_out() {
             ("x: i64, y: i64", "y: i64, x: i64"),
             ("x: i64", "x: u64"),
             ("allowance: u32", "allowance: u64"),
-            ("table: &mut [i32]", "table: &[i32]"),
-            ("table: &[i32]", "table: &mut [i32]"),
-            ("points: &[i32], table", "points: &[u32], table"),
+            ("table: &mut [i64]", "table: &[i64]"),
+            ("table: &[i64]", "table: &mut [i64]"),
+            ("points: &[i64], table", "points: &[u32], table"),
+            ("old: &[i32]", "old: &[i64]"),
+            ("new: &mut [i64]", "new: &[i64]"),
+            ("new: &mut [i64]", "more: &mut [i64]"),
+            (
+                "old: &[i32], new: &mut [i64]",
+                "new: &mut [i64], old: &[i32]",
+            ),
             ("distance: i64, ", ""),
-            ("kneukelboom_meet_v1", "kneukelboom_meets_v1"),
-            ("kneukelboom_meet_v1", "kneukelboom_meet_v2"),
-            ("kneukelboom_meet_v1", "kneukelboom_meet"),
+            ("kneukelboom_meet_v2", "kneukelboom_meets_v2"),
+            ("kneukelboom_meet_v2", "kneukelboom_meet_v3"),
+            ("kneukelboom_meet_v2", "kneukelboom_meet"),
             ("#[no_mangle]\n", ""),
             ("#[no_mangle]\npub extern", "#[no_mangle]\nextern"),
             ("    ensures {", "    requires { ⌜ 1 ≤ 2 ⌝ }\n    ensures {"),
@@ -561,8 +573,8 @@ fn altered_rattle_is_found_out() {
             ("#[repr(C)]", ""),
             (") -> Reply {", ") -> u32 {"),
             (
-                "    points_b: &[i32],\n    table_b: &[i32],",
-                "    table_b: &[i32],\n    points_b: &[i32],",
+                "    points_b: &[i64],\n    table_b: &[i64],",
+                "    table_b: &[i64],\n    points_b: &[i64],",
             ),
         ],
     );
@@ -583,8 +595,8 @@ fn altered_header_is_found_out() {
                 "uint32_t kneukelboom_meet(",
             ),
             (
-                "#define KNEUKELBOOM_VERSION 1",
                 "#define KNEUKELBOOM_VERSION 2",
+                "#define KNEUKELBOOM_VERSION 3",
             ),
             ("#define kneukelboom_meet ", "#define kneukelboom_meets "),
             (
@@ -600,13 +612,17 @@ fn altered_header_is_found_out() {
                 "int64_t y, uint32_t allowance",
                 "int32_t y, uint32_t allowance",
             ),
-            ("int32_t *table,", "const int32_t *table,"),
-            ("const int32_t *table,", "int32_t *table,"),
+            ("int64_t *table,", "const int64_t *table,"),
+            ("const int64_t *table,", "int64_t *table,"),
             (
-                "const int32_t *points, size_t points_len",
-                "size_t points_len, const int32_t *points",
+                "const int64_t *points, size_t points_len",
+                "size_t points_len, const int64_t *points",
             ),
             ("size_t points_len", "uint32_t points_len"),
+            ("const int32_t *old,", "const int64_t *old,"),
+            ("const int32_t *old,", "int32_t *old,"),
+            ("int64_t *wide,", "int32_t *wide,"),
+            ("int64_t *wide,", "const int64_t *wide,"),
             ("    uint32_t line; ", "    uint64_t line; "),
             ("    uint64_t place; ", "    /* gone */ "),
             ("    uint32_t word; ", "    uint32_t first; uint32_t word; "),
@@ -630,18 +646,20 @@ fn altered_rust_is_found_out() {
         &[
             ("x: i64,\n        y: i64,", "y: i64,\n        x: i64,"),
             ("x: i64", "x: u64"),
-            ("table: *mut i32", "table: *const i32"),
+            ("table: *mut i64", "table: *const i64"),
+            ("old: *const i32", "old: *const i64"),
+            ("wide: *mut i64", "wide: *const i64"),
             (
-                "points: *const i32,\n        points_len: usize,",
-                "points_len: usize,\n        points: *const i32,",
+                "points: *const i64,\n        points_len: usize,",
+                "points_len: usize,\n        points: *const i64,",
             ),
             (
                 "points_len: usize,\n        table",
                 "points_len: u32,\n        table",
             ),
             ("fn kneukelboom_meet(", "fn kneukelboom_meets("),
-            ("\"kneukelboom_meet_v1\"", "\"kneukelboom_meet_v2\""),
-            ("\"kneukelboom_meet_v1\"", "\"kneukelboom_near_v1\""),
+            ("\"kneukelboom_meet_v2\"", "\"kneukelboom_meet_v3\""),
+            ("\"kneukelboom_meet_v2\"", "\"kneukelboom_near_v2\""),
             ("    pub visits: u32,", "    pub visits: u64,"),
             ("#[repr(C)]", ""),
         ],

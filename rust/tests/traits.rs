@@ -5,11 +5,11 @@ use std::hash::Hash;
 
 use kneukelboom::{lent, Agreement, Answer, Line, Name, PlainSide, Points, Refusal, Side};
 
-const L: [(i32, i32); 3] = [(0, 0), (4, 3), (8, 0)];
+const L: [(i64, i64); 3] = [(0, 0), (4, 3), (8, 0)];
 
 #[test]
 fn lines_are_equal_and_hash_the_same_by_their_points() {
-    let line = |points: &[(i32, i32)]| Line::new(points).unwrap();
+    let line = |points: &[(i64, i64)]| Line::new(points).unwrap();
     let mut register = HashSet::from([line(&L)]);
     assert!(!register.insert(line(&L)));
     assert!(register.insert(line(&[(8, 0), (4, 3), (0, 0)])));
@@ -26,6 +26,10 @@ fn a_line_comes_from_slices_vectors_arrays_and_iterators() {
     assert_eq!(Line::try_from(L).as_ref(), Ok(&line));
     assert_eq!(Line::from_points(L).as_ref(), Ok(&line));
     assert_eq!(Line::from_points(&line).as_ref(), Ok(&line));
+    let narrow = [(0_i32, 0), (4, 3), (8, 0)];
+    assert_eq!(Line::from_points(narrow).as_ref(), Ok(&line));
+    let bytes = [(0_u8, 0), (4, 3), (8, 0)];
+    assert_eq!(Line::from_points(bytes).as_ref(), Ok(&line));
     let refused: Result<Line, Refusal> = [(0, 0)].try_into();
     assert_eq!(refused.unwrap_err().number, Refusal::TOO_FEW_POINTS);
 }

@@ -1,23 +1,35 @@
-//! Question files from a fixed seed.
+//! Question files from a fixed seed; and lines, points, distances and foreign tables to lend.
 //!
 //! A file is a row of scenes: line A of one shape, line B made from it or of another shape, then
 //! NEAR, IN, MEET and AGREE, each asked with the exact number of visits as its allowance, one less,
 //! and one of 0, 1 and the greatest; records that are not understood stand in between. Shapes and
-//! bad records come round in turn, so a few hundred questions have met each of them once.
+//! bad records come round in turn, so some eight hundred questions have met each of them once. In
+//! every fourth scene NEAR is asked where it turns on the last unit, far from the middle too.
 //!
 //! Refusals that come through the program: 2, 4, 5, 7, 8, 9, 12 and 13. Those that cannot:
 //! 1 (the store hands over whole points), 3 (a line of 258 points is 13 long before), 6 (the
 //! program's tables have room for 257 points), 10 (it reads only tables it has just built), and 8
 //! in AGREE (a point off the sheet is 4 when its line is built).
 
+mod asked;
+mod damage;
+mod random;
+mod shapes;
+mod tight;
+
 use std::io::{self, BufWriter, Write};
 
-use crate::geometry::{all_points, plain_astray, plain_near, Name, Point};
-use crate::program::{Program, Question, MOST_BYTES, MOST_STORED};
-use crate::tree::{self, on_sheet, FARTHEST};
+use crate::geometry::{all_points, plain_astray, plain_near, point, Name, Point};
+use crate::program::{Program, Question, MOST_BYTES};
+use crate::tree::{on_sheet, FARTHEST, SHEET};
 use crate::walk::Answer;
+use shapes::{companion, shaped, SHAPES};
 
-const SHEET: i64 = tree::SHEET as i64;
+pub use asked::{asked_point, distance};
+pub use damage::{damage, foreign, loosen, stray};
+pub use random::Random;
+pub use shapes::sound_line;
+pub use tight::{tight, Tight};
 
 /// Writes a question file with `count` questions. Files of odd seeds lack their last line feed.
 pub fn generate(seed: u64, count: u64, output: impl Write) -> io::Result<()> {
@@ -42,132 +54,11 @@ pub fn generate(seed: u64, count: u64, output: impl Write) -> io::Result<()> {
     file.output.flush()
 }
 
-/// splitmix64: short, and the same on every machine.
-pub(crate) struct Random(pub(crate) u64);
-
-impl Random {
-    fn next(&mut self) -> u64 {
-        self.0 = self.0.wrapping_add(0x9e37_79b9_7f4a_7c15);
-        let mut z = self.0;
-        z = (z ^ (z >> 30)).wrapping_mul(0xbf58_476d_1ce4_e5b9);
-        z = (z ^ (z >> 27)).wrapping_mul(0x94d0_49bb_1331_11eb);
-        z ^ (z >> 31)
-    }
-
-    /// From `least` to `greatest`, both taken in. The tiny lean of the remainder does not matter.
-    pub(crate) fn between(&mut self, least: i64, greatest: i64) -> i64 {
-        least + (self.next() % (greatest - least + 1) as u64) as i64
-    }
-
-    fn pick<T: Copy>(&mut self, from: &[T]) -> T {
-        from[self.between(0, from.len() as i64 - 1) as usize]
-    }
-
-    fn one_in(&mut self, chances: i64) -> bool {
-        self.between(1, chances) == 1
-    }
-}
-
 /// A place before it is put on the sheet.
 type Place = (i64, i64);
 
-#[derive(Clone, Copy, PartialEq, Eq, Debug)]
-enum Shape {
-    Nothing,
-    OnePoint,
-    OneSegment,
-    SmallWalk,
-    LargeWalk,
-    SheetCorners,
-    CollinearForward,
-    CollinearBackAndForth,
-    Zigzag,
-    Staircase,
-    Spiral,
-    FullStore,
-    Pythagorean,
-    RandomRing,
-    Triangle,
-    Square,
-    FigureOfEight,
-    DoubleWound,
-    Star,
-    Castle,
-    RetracedRing,
-    FullRing,
-    RingOfThree,
-    Pillar,
-    JustOffTheSheet,
-    FarOffTheSheet,
-    EqualNeighbours,
-    EqualNeighboursAndOffTheSheet,
-    TooMany,
-}
-
-const SHAPES: [Shape; 29] = [
-    Shape::SmallWalk,
-    Shape::Square,
-    Shape::Nothing,
-    Shape::Zigzag,
-    Shape::OnePoint,
-    Shape::OneSegment,
-    Shape::Castle,
-    Shape::EqualNeighbours,
-    Shape::LargeWalk,
-    Shape::SheetCorners,
-    Shape::JustOffTheSheet,
-    Shape::FigureOfEight,
-    Shape::CollinearForward,
-    Shape::TooMany,
-    Shape::CollinearBackAndForth,
-    Shape::DoubleWound,
-    Shape::Staircase,
-    Shape::FarOffTheSheet,
-    Shape::Spiral,
-    Shape::Star,
-    Shape::RingOfThree,
-    Shape::FullStore,
-    Shape::Triangle,
-    Shape::EqualNeighboursAndOffTheSheet,
-    Shape::Pythagorean,
-    Shape::RandomRing,
-    Shape::RetracedRing,
-    Shape::FullRing,
-    Shape::Pillar,
-];
-
-/// Shapes that are always built, for the B of a scene whose A should be looked at.
-const SOUND: [Shape; 10] = [
-    Shape::OneSegment,
-    Shape::SmallWalk,
-    Shape::LargeWalk,
-    Shape::SheetCorners,
-    Shape::CollinearBackAndForth,
-    Shape::Zigzag,
-    Shape::Staircase,
-    Shape::Spiral,
-    Shape::Square,
-    Shape::Star,
-];
-
 /// Steps whose length is whole: they bring distances that are met exactly.
 const WHOLE_STEPS: [Place; 6] = [(3, 4), (-4, 3), (5, -12), (-8, -15), (7, 24), (1, 0)];
-
-/// Twelve directions, close enough to a circle for stars.
-const CLOCK: [Place; 12] = [
-    (12, 0),
-    (10, 6),
-    (6, 10),
-    (0, 12),
-    (-6, 10),
-    (-10, 6),
-    (-12, 0),
-    (-10, -6),
-    (-6, -10),
-    (0, -12),
-    (6, -10),
-    (10, -6),
-];
 
 /// Records that are not understood, whatever stands before them.
 const BAD_RECORDS: [&[u8]; 86] = [
@@ -287,38 +178,38 @@ impl<W: Write> File<W> {
     /// Points and questions while no line is directed to and both are empty.
     fn before_any_line(&mut self) -> io::Result<()> {
         self.put(b"PT\t1\t2")?;
-        self.put(b"PT\t-16384\t2147483647")?;
+        self.put(b"PT\t-1000001\t2147483647")?;
         self.question(Question::Near {
             z: Point { x: 0, y: 0 },
             d: -1,
             allowance: 0,
         })?;
         self.question(Question::Agree {
-            d: 40_000,
+            d: 4_000_000,
             allowance: 0,
         })?;
         // The longest record that is understood: 51 bytes.
         self.question(Question::Near {
             z: Point {
-                x: i32::MIN,
-                y: i32::MIN,
+                x: i32::MIN.into(),
+                y: i32::MIN.into(),
             },
-            d: i32::MIN,
+            d: i32::MIN.into(),
             allowance: u32::MAX,
         })?;
         self.bad_record()
     }
 
     fn scene(&mut self, number: usize) -> io::Result<()> {
-        let a = self.shaped(SHAPES[number % SHAPES.len()]);
+        let a = shaped(&mut self.random, SHAPES[number % SHAPES.len()]);
         self.line("LINE\tA", &a)?;
         // Now and then the old B stays.
         if !self.random.one_in(8) {
-            let b = self.companion(&a);
+            let b = companion(&mut self.random, &a);
             self.line("LINE\tB", &b)?;
         }
         for _ in 0..2 {
-            let z = self.asked_point(&a);
+            let z = asked_point(&mut self.random, &a);
             let d = self.near_distance(z);
             self.ask(|allowance| Question::Near { z, d, allowance })?;
             self.bad_record()?;
@@ -326,13 +217,47 @@ impl<W: Write> File<W> {
         // A ring has more to tell than the refusal of a line that is none.
         let is_ring = a.len() >= 4 && a.first() == a.last();
         for _ in 0..if is_ring { 6 } else { 1 } {
-            let z = self.asked_point(&a);
+            let z = asked_point(&mut self.random, &a);
             self.ask(|allowance| Question::In { z, allowance })?;
         }
         self.ask(|allowance| Question::Meet { allowance })?;
         self.bad_record()?;
         let d = self.agree_distance();
-        self.ask(|allowance| Question::Agree { d, allowance })
+        self.ask(|allowance| Question::Agree { d, allowance })?;
+        if number % 4 == 3 {
+            self.tight_scene()?;
+        }
+        Ok(())
+    }
+
+    /// NEAR at the distance itself, one less and one more, at the points beside z, and of a line
+    /// that is bent away from z: its strip reaches to the segment, and no point of it does.
+    fn tight_scene(&mut self) -> io::Result<()> {
+        let Tight { points, z, d, .. } = tight(&mut self.random);
+        let (start, end) = (point(&points, 0), point(&points, 1));
+        let near = |z, d| Question::Near {
+            z,
+            d,
+            allowance: u32::MAX,
+        };
+        self.line("LINE\tA", &[start, end])?;
+        for d in [d - 1, d, d + 1] {
+            self.question(near(z, d))?;
+        }
+        let (right, up) = (self.random.sign(), self.random.sign());
+        self.question(near(
+            Point {
+                x: z.x + right,
+                ..z
+            },
+            d,
+        ))?;
+        self.question(near(Point { y: z.y + up, ..z }, d))?;
+        self.line("LINE\tA", &[start, bend(start, end, z), end])?;
+        for d in [d - 1, d] {
+            self.question(near(z, d))?;
+        }
+        Ok(())
     }
 
     fn line(&mut self, record: &str, points: &[Point]) -> io::Result<()> {
@@ -424,66 +349,17 @@ impl<W: Write> File<W> {
         }
     }
 
-    /// A point to ask about: at or near A, level with its corners, at and over the sheet's edge.
-    fn asked_point(&mut self, a: &[Point]) -> Point {
-        let on = |p: &Point| (i64::from(p.x), i64::from(p.y));
-        let places: Vec<Place> = a.iter().map(on).collect();
-        let corner = if places.is_empty() {
-            (0, 0)
-        } else {
-            self.random.pick(&places)
-        };
-        let reach = |side: fn(&Place) -> i64| {
-            let least = places.iter().map(side).min().unwrap_or(0).max(-SHEET);
-            let greatest = places.iter().map(side).max().unwrap_or(0).min(SHEET);
-            (least.min(greatest) - 2, greatest.max(least) + 2)
-        };
-        let (x, y) = (reach(|p| p.0), reach(|p| p.1));
-        let anywhere = (self.random.between(x.0, x.1), self.random.between(y.0, y.1));
-        let edge = [-SHEET, 0, SHEET];
-        let over = [-16_384, 16_384, i64::from(i32::MIN), i64::from(i32::MAX)];
-        let place = match self.random.between(0, 19) {
-            0 | 1 => corner,
-            2 => (
-                corner.0 + self.random.between(-2, 2),
-                corner.1 + self.random.between(-2, 2),
-            ),
-            3 | 4 if places.len() >= 2 => {
-                let at = self.random.between(1, places.len() as i64 - 1) as usize;
-                let (p, q) = (places[at - 1], places[at]);
-                ((p.0 + q.0) / 2, (p.1 + q.1) / 2)
-            }
-            5..=8 => (anywhere.0, corner.1),
-            9 => (corner.0, anywhere.1),
-            10..=12 => {
-                let (dx, dy) = self.random.pick(&WHOLE_STEPS);
-                let times = self.random.between(-20, 20);
-                (corner.0 + times * dx, corner.1 + times * dy)
-            }
-            13 => (self.random.pick(&edge), self.random.pick(&edge)),
-            14 => (
-                self.random.between(-SHEET, SHEET),
-                self.random.between(-SHEET, SHEET),
-            ),
-            15 => (self.random.pick(&over), anywhere.1),
-            16 if self.random.one_in(2) => (anywhere.0, self.random.pick(&over)),
-            _ => anywhere,
-        };
-        as_point(place)
-    }
-
-    /// The least distance that says yes, one below it, and distances at the limits.
-    fn near_distance(&mut self, z: Point) -> i32 {
+    fn near_distance(&mut self, z: Point) -> i64 {
         let a = self.program.points(Name::A);
         let least = if on_sheet(z) && all_on_sheet(a) {
             least_distance(|d| plain_near(a, z, d))
         } else {
             1
         };
-        self.distance(least)
+        distance(&mut self.random, least)
     }
 
-    fn agree_distance(&mut self) -> i32 {
+    fn agree_distance(&mut self) -> i64 {
         let a = self.program.points(Name::A);
         let b = self.program.points(Name::B);
         let least = if all_on_sheet(a) && all_on_sheet(b) {
@@ -491,336 +367,29 @@ impl<W: Write> File<W> {
         } else {
             1
         };
-        self.distance(least)
-    }
-
-    fn distance(&mut self, least: i32) -> i32 {
-        match self.random.between(0, 15) {
-            0..=4 => least,
-            5..=8 => least - 1,
-            9 => 0,
-            10 => self.random.between(1, 20) as i32,
-            11 => self.random.between(0, FARTHEST.into()) as i32,
-            12 => FARTHEST,
-            13 => 32_768,
-            14 => -1,
-            _ => self.random.pick(&[i32::MIN, i32::MAX, -FARTHEST, 65_535]),
-        }
-    }
-
-    /// Line B beside A: alike, a part of it, touching it, or something else altogether.
-    fn companion(&mut self, a: &[Point]) -> Vec<Point> {
-        match self.random.between(0, 9) {
-            0 => a.to_vec(),
-            1 => a.iter().rev().copied().collect(),
-            2 | 3 => {
-                let size = self.random.between(1, 9);
-                let jittered = a.iter().map(|p| {
-                    let x = i64::from(p.x) + self.random.between(-size, size);
-                    let y = i64::from(p.y) + self.random.between(-size, size);
-                    as_point((x.clamp(-SHEET, SHEET), y.clamp(-SHEET, SHEET)))
-                });
-                jittered.collect()
-            }
-            // A stub: near A at every point, while A is not near it.
-            4 => a[..a.len().min(2 + a.len() / 3)].to_vec(),
-            // From the middle of A outward: touches it, or crosses it.
-            5 | 6 if a.len() >= 2 => {
-                let (p, q) = (a[a.len() / 2 - 1], a[a.len() / 2]);
-                let start = (
-                    (i64::from(p.x) + i64::from(q.x)) / 2,
-                    (i64::from(p.y) + i64::from(q.y)) / 2,
-                );
-                let (dx, dy) = self.random.pick(&WHOLE_STEPS);
-                let lead = self.random.between(0, 2);
-                let stroke = (0..4).map(|i| (start.0 + (i - lead) * dx, start.1 + (i - lead) * dy));
-                stroke.map(as_point).collect()
-            }
-            7 => {
-                let shape = self.random.pick(&SHAPES);
-                self.shaped(shape)
-            }
-            _ => {
-                let shape = self.random.pick(&SOUND);
-                self.shaped(shape)
-            }
-        }
-    }
-
-    fn shaped(&mut self, shape: Shape) -> Vec<Point> {
-        let places = match shape {
-            Shape::Nothing => vec![],
-            Shape::OnePoint => vec![(3, -4)],
-            Shape::OneSegment => self.wander(2, 9),
-            Shape::SmallWalk => {
-                let count = self.random.between(3, 12);
-                self.wander(count, 8)
-            }
-            Shape::LargeWalk => {
-                let count = self.random.between(3, 60);
-                self.wander(count, SHEET)
-            }
-            Shape::SheetCorners => {
-                let count = self.random.between(2, 9);
-                let mut places: Vec<Place> = vec![];
-                while (places.len() as i64) < count {
-                    let place = (
-                        self.random.pick(&[-SHEET, SHEET, 0]),
-                        self.random.pick(&[-SHEET, SHEET, SHEET - 1]),
-                    );
-                    push_new(&mut places, place);
-                }
-                places
-            }
-            Shape::CollinearForward => {
-                let (dx, dy) = self.random.pick(&WHOLE_STEPS);
-                let count = self.random.between(3, 30);
-                (0..count).map(|i| (i * dx, i * dy)).collect()
-            }
-            Shape::CollinearBackAndForth => {
-                let (dx, dy) = self.random.pick(&WHOLE_STEPS);
-                let mut places = vec![];
-                for _ in 0..self.random.between(4, 30) {
-                    let i = self.random.between(-6, 6);
-                    push_new(&mut places, (i * dx, i * dy));
-                }
-                push_new(&mut places, (7 * dx, 7 * dy));
-                push_new(&mut places, (8 * dx, 8 * dy));
-                places
-            }
-            Shape::Zigzag => {
-                let count = self.random.pick(&[5, 20, 64, 129, 257]);
-                let height = self.random.between(1, 40);
-                (0..count).map(|i| (i, i % 2 * height)).collect()
-            }
-            Shape::Staircase => {
-                let count = self.random.between(4, 60);
-                (0..count).map(|i| (i / 2 * 3, (i + 1) / 2 * 2)).collect()
-            }
-            Shape::Spiral => {
-                let count = self.random.pick(&[9, 30, 100, 257]);
-                let turns = [(1, 0), (0, 1), (-1, 0), (0, -1)];
-                let mut at = (0, 0);
-                let mut places = vec![at];
-                for i in 1..count {
-                    let (dx, dy) = turns[(i % 4) as usize];
-                    at = (at.0 + i * dx, at.1 + i * dy);
-                    places.push(at);
-                }
-                places
-            }
-            Shape::FullStore => self.steps(MOST_STORED as i64, 40),
-            Shape::Pythagorean => {
-                let mut at = (0, 0);
-                let mut places = vec![at];
-                for _ in 0..self.random.between(1, 12) {
-                    let (dx, dy) = self.random.pick(&WHOLE_STEPS);
-                    let times = self.random.pick(&[-3, -2, -1, 1, 2, 3]);
-                    at = (at.0 + times * dx, at.1 + times * dy);
-                    places.push(at);
-                }
-                places
-            }
-            Shape::RandomRing => {
-                let count = self.random.between(4, 16);
-                let places = self.wander(count, 7);
-                closed(places)
-            }
-            Shape::Triangle => closed(vec![(0, 0), (5, 1), (2, 6)]),
-            Shape::Square => closed(vec![(0, 0), (4, 0), (4, 4), (0, 4)]),
-            Shape::FigureOfEight => closed(vec![(0, 0), (6, 6), (6, 0), (0, 6)]),
-            Shape::DoubleWound => {
-                let once = [(0, 0), (6, 0), (6, 6), (0, 6)];
-                let inner = self.random.between(0, 2);
-                let again = [
-                    (inner, inner),
-                    (6 - inner, inner),
-                    (6 - inner, 6 - inner),
-                    (inner, 6 - inner),
-                ];
-                let mut places = once.to_vec();
-                places.extend(again);
-                closed(places)
-            }
-            Shape::Star => {
-                let stride = self.random.pick(&[5, 7]);
-                closed((0..12).map(|i| CLOCK[(i * stride) % 12]).collect())
-            }
-            Shape::Castle => {
-                // Battlements: many level edges at few heights, for rays along edges and corners.
-                let towers = self.random.between(2, 30);
-                let mut places = vec![];
-                for i in 0..towers {
-                    let height = self.random.pick(&[3, 5, 5]);
-                    places.extend([(4 * i, 0), (4 * i, height), (4 * i + 2, height)]);
-                    places.push((4 * i + 2, 0));
-                }
-                places.push((4 * towers, 0));
-                places.push((4 * towers, -3));
-                places.push((0, -3));
-                closed(places)
-            }
-            Shape::RetracedRing => closed(vec![
-                (0, 0),
-                (8, 0),
-                (4, 0),
-                (4, 6),
-                (4, 2),
-                (0, 2),
-                (-3, 2),
-                (0, 2),
-            ]),
-            Shape::FullRing => {
-                // 256 places round a square, each pushed out a little.
-                let mut places = vec![];
-                for i in 0..64 {
-                    let out = self.random.between(0, 30);
-                    places.push((10 * i, -out));
-                }
-                for i in 0..64 {
-                    let out = self.random.between(0, 30);
-                    places.push((640 + out, 10 * i));
-                }
-                for i in 0..64 {
-                    let out = self.random.between(0, 30);
-                    places.push((640 - 10 * i, 640 + out));
-                }
-                for i in 0..64 {
-                    let out = self.random.between(0, 30);
-                    places.push((-out, 640 - 10 * i));
-                }
-                closed(places)
-            }
-            Shape::RingOfThree => vec![(0, 0), (4, 3), (0, 0)],
-            Shape::Pillar => {
-                // Up and down one upright: all c are 0, so only the middle rule splits it.
-                let count = self.random.between(3, 40);
-                (0..count).map(|i| (0, i % 2 * 9 + i / 8)).collect()
-            }
-            Shape::JustOffTheSheet => {
-                let mut places = self.wander(6, 100);
-                let over = self.random.pick(&[-16_384, 16_384]);
-                let at = self.random.between(0, 5) as usize;
-                places[at] = if self.random.one_in(2) {
-                    (over, SHEET)
-                } else {
-                    (-SHEET, over)
-                };
-                return places.into_iter().map(as_point).collect();
-            }
-            Shape::FarOffTheSheet => {
-                let ends = [i64::from(i32::MIN), i64::from(i32::MAX)];
-                let mut places = self.wander(5, 100);
-                let at = self.random.between(0, 4) as usize;
-                places[at] = (self.random.pick(&ends), self.random.pick(&ends));
-                return places.into_iter().map(as_point).collect();
-            }
-            Shape::EqualNeighbours => {
-                let mut places = self.wander(7, 50);
-                let at = self.random.between(0, 5) as usize;
-                places[at + 1] = places[at];
-                places
-            }
-            Shape::EqualNeighboursAndOffTheSheet => {
-                let mut places = self.wander(7, 50);
-                places[1] = places[0];
-                let at = self.random.between(2, 6) as usize;
-                places[at] = (16_384, 0);
-                return places.into_iter().map(as_point).collect();
-            }
-            Shape::TooMany => {
-                let count = self.random.between(258, 262);
-                self.steps(count, 30)
-            }
-        };
-        self.on_the_sheet(&places)
-    }
-
-    /// Places anywhere in a square, no two neighbours equal.
-    fn wander(&mut self, count: i64, reach: i64) -> Vec<Place> {
-        let mut places = vec![];
-        while (places.len() as i64) < count {
-            let place = (
-                self.random.between(-reach, reach),
-                self.random.between(-reach, reach),
-            );
-            push_new(&mut places, place);
-        }
-        places
-    }
-
-    /// Places a short step apart, as of a stream that was surveyed.
-    fn steps(&mut self, count: i64, size: i64) -> Vec<Place> {
-        let mut at = (0, 0);
-        let mut places = vec![at];
-        while (places.len() as i64) < count {
-            at.0 += self.random.between(0, size);
-            at.1 += self.random.between(-size, size);
-            push_new(&mut places, at);
-        }
-        places
-    }
-
-    /// Scales and moves a shape, as far as it fits, sometimes right into a corner of the sheet.
-    fn on_the_sheet(&mut self, places: &[Place]) -> Vec<Point> {
-        let reach = places
-            .iter()
-            .map(|p| p.0.abs().max(p.1.abs()))
-            .max()
-            .unwrap_or(0)
-            .max(1);
-        let fitting = (SHEET / reach).max(1);
-        let scale = match self.random.between(0, 5) {
-            0 => fitting,
-            1 => self.random.between(1, fitting),
-            _ => 1,
-        };
-        let room = SHEET - scale * reach;
-        let (right, up) = match self.random.between(0, 4) {
-            0 if room > 0 => (
-                self.random.between(-room, room),
-                self.random.between(-room, room),
-            ),
-            1 if room > 0 => (room, -room),
-            _ => (0, 0),
-        };
-        places
-            .iter()
-            .map(|p| as_point((scale * p.0 + right, scale * p.1 + up)))
-            .collect()
+        distance(&mut self.random, least)
     }
 }
 
-fn push_new(places: &mut Vec<Place>, place: Place) {
-    if places.last() != Some(&place) {
-        places.push(place);
+/// A place on the other side of the segment's middle than z, as far as the sheet goes.
+fn bend(start: Point, end: Point, z: Point) -> Point {
+    let away = |start: i64, end: i64, z: i64| {
+        let middle = (start + end) / 2;
+        (middle + (middle - z) / 8).clamp(-SHEET, SHEET)
+    };
+    Point {
+        x: away(start.x, end.x, z.x),
+        y: away(start.y, end.y, z.y),
     }
-}
-
-fn closed(mut places: Vec<Place>) -> Vec<Place> {
-    // A walk that happens to end where it began would have two equal neighbours.
-    if places.last() == places.first() {
-        places.pop();
-    }
-    places.push(places[0]);
-    places
 }
 
 /// The plain geometry is exact on the sheet only; off it the questions are refused anyway.
-fn all_on_sheet(points: &[i32]) -> bool {
+fn all_on_sheet(points: &[i64]) -> bool {
     all_points(points).all(on_sheet)
 }
 
-fn as_point(place: Place) -> Point {
-    let fit = |v: i64| v.clamp(i64::from(i32::MIN), i64::from(i32::MAX)) as i32;
-    Point {
-        x: fit(place.0),
-        y: fit(place.1),
-    }
-}
-
-/// The least distance for which `yes` holds, 32,767 where none does; `yes` never turns back to no.
-fn least_distance(yes: impl Fn(i32) -> bool) -> i32 {
+/// The least distance for which `yes` holds, 2,000,000 where none does; `yes` never turns back to no.
+fn least_distance(yes: impl Fn(i64) -> bool) -> i64 {
     let (mut low, mut high) = (0, FARTHEST);
     while low < high {
         let middle = (low + high) / 2;

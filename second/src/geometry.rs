@@ -1,14 +1,15 @@
 //! Exact tests on points and segments, and the plain answers over all segments.
 //!
-//! docs/RULES.md, section 3. For points on the sheet and distances of at
-//! most 32,767 every value here stays below 2^63, and all of it is computed in i128, so nothing can
-//! wrap. The strips have their own arithmetic (tree.rs, i64): a slip in one is seen by the other.
+//! docs/RULES.md, section 3. For points on the sheet and distances of at most 2,000,000 every value
+//! here stays below 2^87 (c is at most 8 * 10^12, and squares are compared), and all of it is computed
+//! in i128, so nothing can wrap. The strips have their own arithmetic (tree.rs): a slip in one is seen
+//! by the other.
 
 /// A point of a line, or the point asked about, in sheet units.
 #[derive(Clone, Copy, PartialEq, Eq, Debug)]
 pub struct Point {
-    pub x: i32,
-    pub y: i32,
+    pub x: i64,
+    pub y: i64,
 }
 
 /// Which of the two lines.
@@ -33,18 +34,18 @@ pub struct Segment {
 }
 
 /// Point `index` of a slice that holds x, y, x, y.
-pub fn point(points: &[i32], index: usize) -> Point {
+pub fn point(points: &[i64], index: usize) -> Point {
     Point {
         x: points[2 * index],
         y: points[2 * index + 1],
     }
 }
 
-pub fn all_points(points: &[i32]) -> impl Iterator<Item = Point> + '_ {
+pub fn all_points(points: &[i64]) -> impl Iterator<Item = Point> + '_ {
     points.chunks_exact(2).map(|p| Point { x: p[0], y: p[1] })
 }
 
-pub fn segments(points: &[i32]) -> impl Iterator<Item = Segment> + '_ {
+pub fn segments(points: &[i64]) -> impl Iterator<Item = Segment> + '_ {
     all_points(points)
         .zip(all_points(points).skip(1))
         .map(|(from, to)| Segment { from, to })
@@ -70,7 +71,7 @@ fn dot(u: Step, v: Step) -> i128 {
 }
 
 /// Is `z` within `d` of the segment? Squares are compared, so nothing is rounded.
-pub fn within(segment: Segment, z: Point, d: i32) -> bool {
+pub fn within(segment: Segment, z: Point, d: i64) -> bool {
     let u = step(segment.from, segment.to);
     let from_start = step(segment.from, z);
     let from_end = step(segment.to, z);
@@ -88,7 +89,7 @@ pub fn within(segment: Segment, z: Point, d: i32) -> bool {
 
 /// Do the segments share a point, ends, touches and overlaps included?
 pub fn share_point(p: Segment, q: Segment) -> bool {
-    let overlap = |a: i32, b: i32, c: i32, d: i32| a.min(b) <= c.max(d) && c.min(d) <= a.max(b);
+    let overlap = |a: i64, b: i64, c: i64, d: i64| a.min(b) <= c.max(d) && c.min(d) <= a.max(b);
     // Both ends strictly on one side of the other's line: no point can be shared.
     let one_sided = |of: Segment, other: Segment| {
         let u = step(of.from, of.to);
@@ -123,17 +124,17 @@ pub fn crosses(segment: Segment, z: Point) -> bool {
 }
 
 /// NEAR over all segments.
-pub fn plain_near(points: &[i32], z: Point, d: i32) -> bool {
+pub fn plain_near(points: &[i64], z: Point, d: i64) -> bool {
     segments(points).any(|segment| within(segment, z, d))
 }
 
 /// MEET over all pairs of segments.
-pub fn plain_meet(a: &[i32], b: &[i32]) -> bool {
+pub fn plain_meet(a: &[i64], b: &[i64]) -> bool {
     segments(a).any(|p| segments(b).any(|q| share_point(p, q)))
 }
 
 /// IN over all segments.
-pub fn plain_side(points: &[i32], z: Point) -> Side {
+pub fn plain_side(points: &[i64], z: Point) -> Side {
     if segments(points).any(|segment| on_segment(segment, z)) {
         Side::On
     } else if segments(points).filter(|&s| crosses(s, z)).count() % 2 == 1 {
@@ -145,8 +146,8 @@ pub fn plain_side(points: &[i32], z: Point) -> Side {
 
 /// AGREE over all points and segments: nothing when the lines agree, else the first point that is
 /// not near the other line, A's points before B's.
-pub fn plain_astray(a: &[i32], b: &[i32], d: i32) -> Option<(Name, usize)> {
-    let first_far = |of: &[i32], other: &[i32]| {
+pub fn plain_astray(a: &[i64], b: &[i64], d: i64) -> Option<(Name, usize)> {
+    let first_far = |of: &[i64], other: &[i64]| {
         let index = all_points(of).position(|p| !plain_near(other, p, d));
         index
     };
@@ -160,11 +161,11 @@ pub fn plain_astray(a: &[i32], b: &[i32], d: i32) -> Option<(Name, usize)> {
 mod tests {
     use super::*;
 
-    fn at(x: i32, y: i32) -> Point {
+    fn at(x: i64, y: i64) -> Point {
         Point { x, y }
     }
 
-    fn seg(x: i32, y: i32, to_x: i32, to_y: i32) -> Segment {
+    fn seg(x: i64, y: i64, to_x: i64, to_y: i64) -> Segment {
         Segment {
             from: at(x, y),
             to: at(to_x, to_y),
@@ -172,7 +173,7 @@ mod tests {
     }
 
     /// All segments between two different points of a small grid.
-    fn grid_segments(size: i32) -> Vec<Segment> {
+    fn grid_segments(size: i64) -> Vec<Segment> {
         let grid = || (0..size).flat_map(|x| (0..size).map(move |y| at(x, y)));
         grid()
             .flat_map(|from| grid().map(move |to| Segment { from, to }))
@@ -320,14 +321,14 @@ mod tests {
 
     #[test]
     fn ray_to_the_left_gives_the_same_side() {
-        let rings: [&[i32]; 4] = [
+        let rings: [&[i64]; 4] = [
             &[0, 0, 6, 6, 6, 0, 0, 6, 0, 0],
             &[0, 0, 8, 0, 4, 0, 4, 6, 4, 2, 0, 2, -3, 2, 0, 2, 0, 0],
             &[0, 0, 12, 0, 12, 6, 8, 6, 8, 3, 4, 3, 4, 6, 0, 6, 0, 0],
             &[3, 1, -4, 5, 6, 2, -1, -3, 2, 7, 5, -2, 3, 1],
         ];
         for ring in rings {
-            let mirrored: Vec<i32> = ring.chunks(2).flat_map(|p| [-p[0], p[1]]).collect();
+            let mirrored: Vec<i64> = ring.chunks(2).flat_map(|p| [-p[0], p[1]]).collect();
             for (x, y) in (-6..14).flat_map(|x| (-5..9).map(move |y| (x, y))) {
                 let side = plain_side(ring, at(x, y));
                 assert_eq!(side, plain_side(&mirrored, at(-x, y)), "{ring:?} {x} {y}");

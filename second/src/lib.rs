@@ -3,6 +3,7 @@
 
 pub mod generate;
 pub mod geometry;
+pub mod old;
 pub mod program;
 pub mod tree;
 pub mod walk;

@@ -124,10 +124,10 @@ pub enum Record {
 
 #[derive(Clone, Copy, PartialEq, Eq, Debug)]
 pub enum Question {
-    Near { z: Point, d: i32, allowance: u32 },
+    Near { z: Point, d: i64, allowance: u32 },
     Meet { allowance: u32 },
     In { z: Point, allowance: u32 },
-    Agree { d: i32, allowance: u32 },
+    Agree { d: i64, allowance: u32 },
 }
 
 impl Question {
@@ -175,8 +175,9 @@ pub fn record(text: &[u8]) -> Option<Record> {
     }
 }
 
-fn signed(field: &[u8]) -> Option<i32> {
-    i32::try_from(number(field)?).ok()
+/// A number that fits 32 bits, as x, y and D have to.
+fn signed(field: &[u8]) -> Option<i64> {
+    i32::try_from(number(field)?).ok().map(i64::from)
 }
 
 fn unsigned(field: &[u8]) -> Option<u32> {
@@ -203,11 +204,11 @@ fn number(field: &[u8]) -> Option<i64> {
 
 /// A line as the program keeps it, with room for its table.
 struct Store {
-    numbers: [i32; 2 * MOST_STORED],
+    numbers: [i64; 2 * MOST_STORED],
     count: usize,
     /// Under refusal 13: a point past the 257th came since the last LINE.
     over: bool,
-    table: [i32; ROW * rows(MOST_STORED - 1)],
+    table: [i64; ROW * rows(MOST_STORED - 1)],
 }
 
 impl Store {
@@ -220,7 +221,7 @@ impl Store {
         }
     }
 
-    fn points(&self) -> &[i32] {
+    fn points(&self) -> &[i64] {
         &self.numbers[..2 * self.count]
     }
 
@@ -312,7 +313,7 @@ impl Program {
     }
 
     /// The stored points of a line: x, y, x, y.
-    pub fn points(&self, name: Name) -> &[i32] {
+    pub fn points(&self, name: Name) -> &[i64] {
         match name {
             Name::A => self.a.points(),
             Name::B => self.b.points(),
@@ -693,6 +694,18 @@ mod tests {
         let input = "LINE A\nPT 0 0\nPT 9 0\nPT 18 0\nLINE B\nPT 0 1\nPT 9 1\nAGREE 1 99\n\
                      AGREE 10 99\nMEET 99\nNEAR 0 9 1 99\n";
         let expected = "1 NO 3 0 A 2\n2 YES 7 0 - 0\n3 NO 1 0 - 0\n4 NO 1 0 - 0\n";
+        assert_eq!(shown(input), expected);
+    }
+
+    #[test]
+    fn sheet_of_125_km_and_its_distances_are_taken_and_no_farther() {
+        let input = "LINE A\nPT -1000000 -1000000\nPT 1000000 1000000\n\
+                     NEAR 1000000 -1000000 1414213 9\nNEAR 1000000 -1000000 1414214 9\n\
+                     NEAR 1000000 -1000000 2000000 9\nNEAR 0 0 2000001 9\nNEAR 1000001 0 0 9\n\
+                     NEAR 2147483648 0 0 9\nNEAR 0 0 -2147483649 9\nPT 1000001 0\nNEAR 0 0 0 9\n";
+        let expected = "1 NO 1 0 - 0\n2 YES 1 0 - 0\n3 YES 1 0 - 0\n4 REFUSED 0 7 - 0\n\
+                        5 REFUSED 0 8 - 0\n6 REFUSED 0 12 - 9\n7 REFUSED 0 12 - 10\n\
+                        8 REFUSED 0 4 A 2\n";
         assert_eq!(shown(input), expected);
     }
 

@@ -1,15 +1,17 @@
 //! The strip tree: measuring a run of points, building the table, the refusals of a build.
 //!
-//! docs/RULES.md, section 2. For a point on the sheet, with u the step of a node:
-//! |c| and |t| are at most |u| * |p - s| <= 2 * 32,766^2 < 2^31, so they fit the table's i32, and
-//! their squares fit i64 with room to spare.
+//! docs/RULES.md, sections 1.2 and 2. For points on the sheet, with u the step of a node: |c|, |t| and
+//! |u|^2 are at most |u| * |p - s| <= 2 * 2,000,000^2 = 8 * 10^12 < 2^43, so i64 holds them. It does
+//! not hold their squares: those are compared in i128 (walk.rs).
 
 use crate::geometry::{all_points, point, Name, Point};
 
 /// Coordinates go from -SHEET to SHEET.
-pub const SHEET: i32 = 16_383;
+pub const SHEET: i64 = 1_000_000;
+/// Coordinates went from -OLD_SHEET to OLD_SHEET when points and tables were 32-bit numbers.
+pub const OLD_SHEET: i64 = 16_383;
 /// Distances go from 0 to FARTHEST.
-pub const FARTHEST: i32 = 32_767;
+pub const FARTHEST: i64 = 2_000_000;
 /// Numbers in a table row: first, last, split, then least and greatest of c, t, x and y.
 pub const ROW: usize = 11;
 pub const MOST_POINTS: usize = 4_097;
@@ -48,8 +50,17 @@ impl Span {
     }
 
     /// How far `value` lies outside; 0 inside.
+    ///
+    /// For a span with 0 in it, as c and t of a good row are, the difference is at most |value|. It
+    /// is taken only where it is due: the span may reach from -2^63 to 2^63 - 1.
     pub fn shortfall(self, value: i64) -> i64 {
-        (self.least - value).max(value - self.greatest).max(0)
+        if value < self.least {
+            self.least - value
+        } else if value > self.greatest {
+            value - self.greatest
+        } else {
+            0
+        }
     }
 
     pub fn disjoint(self, other: Span) -> bool {
@@ -62,7 +73,7 @@ impl Span {
     }
 }
 
-/// The axes of a node: its first point and the step to its last.
+/// The axes of a node: its first point and the step to its last, both points on the sheet.
 #[derive(Clone, Copy, Debug)]
 pub struct Frame {
     sx: i64,
@@ -77,14 +88,11 @@ impl Frame {
             // A closed run has no direction of its own: the rules give it the x axis.
             (1, 0)
         } else {
-            (
-                i64::from(last.x) - i64::from(first.x),
-                i64::from(last.y) - i64::from(first.y),
-            )
+            (last.x - first.x, last.y - first.y)
         };
         Frame {
-            sx: i64::from(first.x),
-            sy: i64::from(first.y),
+            sx: first.x,
+            sy: first.y,
             dx,
             dy,
         }
@@ -114,7 +122,11 @@ pub struct Extents {
 }
 
 pub fn on_sheet(p: Point) -> bool {
-    (-SHEET..=SHEET).contains(&p.x) && (-SHEET..=SHEET).contains(&p.y)
+    within_limit(p, SHEET)
+}
+
+fn within_limit(p: Point, limit: i64) -> bool {
+    (-limit..=limit).contains(&p.x) && (-limit..=limit).contains(&p.y)
 }
 
 /// Rows of a tree over that many segments.
@@ -123,7 +135,7 @@ pub const fn rows(segments: usize) -> usize {
 }
 
 /// Refusals 1, 2 and 3.
-pub fn check_points(name: Name, points: &[i32]) -> Result<(), Refusal> {
+pub fn check_points(name: Name, points: &[i64]) -> Result<(), Refusal> {
     let refuse = |number| {
         Err(Refusal {
             number,
@@ -144,8 +156,13 @@ pub fn check_points(name: Name, points: &[i32]) -> Result<(), Refusal> {
 }
 
 /// Refusal 6, for points that passed `check_points`.
-pub fn check_table(name: Name, points: &[i32], table: &[i32]) -> Result<(), Refusal> {
-    if table.len() < ROW * rows(points.len() / 2 - 1) {
+pub fn check_table(name: Name, points: &[i64], table: &[i64]) -> Result<(), Refusal> {
+    check_room(name, points, table.len())
+}
+
+/// Refusal 6, for a table of that many numbers.
+fn check_room(name: Name, points: &[i64], room: usize) -> Result<(), Refusal> {
+    if room < numbers(points) {
         return Err(Refusal {
             number: 6,
             line: Some(name),
@@ -155,40 +172,63 @@ pub fn check_table(name: Name, points: &[i32], table: &[i32]) -> Result<(), Refu
     Ok(())
 }
 
-/// Writes the tree of the line into the lent table, or refuses and writes nothing.
-pub fn build(name: Name, points: &[i32], table: &mut [i32]) -> Result<(), Refusal> {
-    check_points(name, points)?;
+/// Numbers in the table of a line of at least 2 points.
+fn numbers(points: &[i64]) -> usize {
+    ROW * rows(points.len() / 2 - 1)
+}
+
+/// Refusals 4 and 5, on a sheet whose coordinates go from -limit to limit.
+fn check_places(name: Name, points: &[i64], limit: i64) -> Result<(), Refusal> {
     let at = |number, index| Refusal {
         number,
         line: Some(name),
         place: index as u64,
     };
-    if let Some(index) = all_points(points).position(|p| !on_sheet(p)) {
+    if let Some(index) = all_points(points).position(|p| !within_limit(p, limit)) {
         return Err(at(4, index));
     }
     let following = all_points(points).skip(1);
     if let Some(index) = all_points(points).zip(following).position(|(p, q)| p == q) {
         return Err(at(5, index));
     }
-    check_table(name, points, table)?;
-    let used = ROW * rows(points.len() / 2 - 1);
-    grow(points, 0, &mut table[..used]);
     Ok(())
+}
+
+/// Writes the tree of the line into the lent table, or refuses and writes nothing.
+pub fn build(name: Name, points: &[i64], table: &mut [i64]) -> Result<(), Refusal> {
+    let grown = grown(name, points, SHEET, table.len())?;
+    table[..grown.len()].copy_from_slice(&grown);
+    Ok(())
+}
+
+/// The table's numbers for a line on a sheet of that limit, or why a build into that room is refused.
+pub(crate) fn grown(
+    name: Name,
+    points: &[i64],
+    limit: i64,
+    room: usize,
+) -> Result<Vec<i64>, Refusal> {
+    check_points(name, points)?;
+    check_places(name, points, limit)?;
+    check_room(name, points, room)?;
+    let mut table = vec![0; numbers(points)];
+    grow(points, 0, &mut table);
+    Ok(table)
 }
 
 /// Writes the rows of one node and of all below it. `run` is the part of the line that the node
 /// covers, `first` the index of its first point in the line, `table` just the rows of the subtree.
-fn grow(run: &[i32], first: usize, table: &mut [i32]) {
+fn grow(run: &[i64], first: usize, table: &mut [i64]) {
     let segments = run.len() / 2 - 1;
     let (extents, split) = measure(run);
     let (row, below) = table.split_at_mut(ROW);
-    row[0] = first as i32;
-    row[1] = (first + segments) as i32;
-    row[2] = split.map_or(-1, |inner| (first + inner) as i32);
+    row[0] = first as i64;
+    row[1] = (first + segments) as i64;
+    row[2] = split.map_or(-1, |inner| (first + inner) as i64);
     let spans = [extents.c, extents.t, extents.x, extents.y];
     for (pair, span) in row[3..].chunks_exact_mut(2).zip(spans) {
-        pair[0] = span.least as i32;
-        pair[1] = span.greatest as i32;
+        pair[0] = span.least;
+        pair[1] = span.greatest;
     }
     if let Some(inner) = split {
         let (left, right) = below.split_at_mut(ROW * rows(inner));
@@ -198,9 +238,9 @@ fn grow(run: &[i32], first: usize, table: &mut [i32]) {
     }
 }
 
-/// The extents of a run of points, and the index in the run at which it splits (none for a single
-/// segment). Each point is read once: the two ends, which give the frame, then each inner point.
-pub fn measure(run: &[i32]) -> (Extents, Option<usize>) {
+/// The extents of a run of points on the sheet, and the index in it at which it splits (none for a
+/// single segment). Each point is read once: the two ends, which give the frame, then each inner point.
+pub fn measure(run: &[i64]) -> (Extents, Option<usize>) {
     let last = run.len() / 2 - 1;
     let (start, end) = (point(run, 0), point(run, last));
     let frame = Frame::of(start, end);
@@ -209,19 +249,18 @@ pub fn measure(run: &[i32]) -> (Extents, Option<usize>) {
     let mut extents = Extents {
         c: Span::of(0, 0),
         t: Span::of(0, end_t),
-        x: Span::of(i64::from(start.x), i64::from(end.x)),
-        y: Span::of(i64::from(start.y), i64::from(end.y)),
+        x: Span::of(start.x, end.x),
+        y: Span::of(start.y, end.y),
     };
     let mut split = None;
     let (mut farthest, mut off_middle) = (-1, 0);
     for index in 1..last {
         let p = point(run, index);
-        let (x, y) = (i64::from(p.x), i64::from(p.y));
-        let c = frame.c(x, y);
+        let c = frame.c(p.x, p.y);
         extents.c.widen(c);
-        extents.t.widen(frame.t(x, y));
-        extents.x.widen(x);
-        extents.y.widen(y);
+        extents.t.widen(frame.t(p.x, p.y));
+        extents.x.widen(p.x);
+        extents.y.widen(p.y);
         // Farthest from the chord first, then nearest to the middle, then lowest: the scan goes
         // upward, so a later point must be strictly better.
         let off = (2 * index).abs_diff(last);
@@ -238,7 +277,7 @@ mod tests {
     use super::*;
     use crate::generate::Random;
 
-    const L: [i32; 6] = [0, 0, 4, 3, 8, 0];
+    const L: [i64; 6] = [0, 0, 4, 3, 8, 0];
 
     fn refusal(number: u8, place: u64) -> Result<(), Refusal> {
         Err(Refusal {
@@ -248,14 +287,14 @@ mod tests {
         })
     }
 
-    fn built(points: &[i32]) -> Vec<i32> {
+    fn built(points: &[i64]) -> Vec<i64> {
         let mut table = vec![0; ROW * rows(points.len() / 2 - 1)];
         build(Name::A, points, &mut table).expect("these points are sound");
         table
     }
 
     /// A zigzag of that many points.
-    fn zigzag(count: i32) -> Vec<i32> {
+    fn zigzag(count: i64) -> Vec<i64> {
         (0..count).flat_map(|i| [i, i % 2]).collect()
     }
 
@@ -296,7 +335,7 @@ mod tests {
 
     #[test]
     fn collinear_run_splits_in_the_middle() {
-        let run: Vec<i32> = (0..9).flat_map(|i| [2 * i, 3 * i]).collect();
+        let run: Vec<i64> = (0..9).flat_map(|i| [2 * i, 3 * i]).collect();
         let (extents, split) = measure(&run);
         assert_eq!(split, Some(4));
         assert_eq!((extents.c.least, extents.c.greatest), (0, 0));
@@ -347,12 +386,12 @@ mod tests {
     }
 
     /// What `measure` gives, by a pass over all points for each number, and a sort for the split.
-    fn measured_one_by_one(run: &[i32]) -> (Extents, Option<usize>) {
+    fn measured_one_by_one(run: &[i64]) -> (Extents, Option<usize>) {
         let points: Vec<Point> = all_points(run).collect();
         let last = points.len() - 1;
         let frame = Frame::of(points[0], points[last]);
         let span = |number: &dyn Fn(i64, i64) -> i64| {
-            let numbers = || points.iter().map(|p| number(p.x.into(), p.y.into()));
+            let numbers = || points.iter().map(|p| number(p.x, p.y));
             Span {
                 least: numbers().min().expect("a run has points"),
                 greatest: numbers().max().expect("a run has points"),
@@ -366,7 +405,7 @@ mod tests {
         };
         let mut inner: Vec<usize> = (1..last).collect();
         inner.sort_by_key(|&i| {
-            let c = frame.c(points[i].x.into(), points[i].y.into());
+            let c = frame.c(points[i].x, points[i].y);
             (-c.abs(), (2 * i).abs_diff(last), i)
         });
         (extents, inner.first().copied())
@@ -376,11 +415,11 @@ mod tests {
     fn one_pass_measures_what_a_pass_for_each_number_does() {
         let mut random = Random(3);
         // A small reach brings ties and equal neighbours, the whole sheet the greatest numbers.
-        for reach in [1, 2, 5, i64::from(SHEET)] {
+        for reach in [1, 2, 5, OLD_SHEET, SHEET] {
             for count in 2..=9 {
                 for round in 0..200 {
-                    let mut number = || random.between(-reach, reach) as i32;
-                    let mut run: Vec<i32> = (0..2 * count).map(|_| number()).collect();
+                    let mut number = || random.between(-reach, reach);
+                    let mut run: Vec<i64> = (0..2 * count).map(|_| number()).collect();
                     let closed = round % 4 == 0;
                     if closed {
                         run.copy_within(..2, 2 * count - 2);
@@ -421,10 +460,10 @@ mod tests {
 
     #[test]
     fn refused_build_writes_nothing() {
-        let bad: [&[i32]; 5] = [
+        let bad: [&[i64]; 5] = [
             &[0, 0, 1],
             &[0, 0],
-            &[0, 0, 1, 1, 16384, 0],
+            &[0, 0, 1, 1, 1_000_001, 0],
             &[0, 0, 1, 1, 1, 1],
             &[0, 0, 1, 1, 2, 2, 3, 3, 4, 4],
         ];
@@ -436,32 +475,71 @@ mod tests {
     }
 
     #[test]
-    fn coordinate_16383_is_taken_and_16384_refused_4() {
-        let far = 16_383;
+    fn figure_8_4_coordinate_1000000_is_taken_and_1000001_refused_4() {
+        let far = 1_000_000;
         let mut table = [0; 33];
-        for points in [[far, far, -far, -far], [-far, far, far, -far]] {
+        for points in [[0, 0, far, 0], [0, 0, 0, -far], [-far, far, far, -far]] {
             assert_eq!(build(Name::A, &points, &mut table), Ok(()));
         }
-        for (x, y) in [(16384, 0), (-16384, 0), (0, 16384), (0, -16384)] {
-            let points = [0, 0, x, y, 1, 1];
-            assert_eq!(build(Name::A, &points, &mut table), refusal(4, 1));
+        let off = 1_000_001;
+        for (x, y) in [(off, 0), (-off, 0), (0, off), (0, -off)] {
+            for points in [&[0, 0, x, y][..], &[0, 0, x, y, 1, 1]] {
+                assert_eq!(build(Name::A, points, &mut table), refusal(4, 1));
+            }
         }
-        let ends = [i32::MIN, i32::MAX, 0, 0];
-        assert_eq!(build(Name::A, &ends, &mut table), refusal(4, 0));
     }
 
     #[test]
-    fn strips_of_the_widest_sheet_fit_the_table() {
-        let far = 16_383;
+    fn coordinate_of_64_bits_is_refused_4_also_where_its_low_32_bits_are_on_the_sheet() {
+        let mut table = [0; 33];
+        let ends = [i64::MIN, i64::MAX, 0, 0];
+        assert_eq!(build(Name::A, &ends, &mut table), refusal(4, 0));
+        for off in [1 << 32, (1 << 32) + 4, -(1 << 32), 1 << 62, i64::MIN + 4] {
+            let points = [0, 0, 4, off, off, off];
+            assert_eq!(build(Name::A, &points, &mut table), refusal(4, 1));
+        }
+        assert_eq!(table, [0; 33]);
+    }
+
+    #[test]
+    fn figure_8_1_row_of_the_diagonal_of_the_sheet() {
+        let far = 1_000_000;
+        let row = [0, 1, -1, 0, 0, 0, 8_000_000_000_000, -far, far, -far, far];
+        assert_eq!(built(&[-far, -far, far, far]), row);
+    }
+
+    #[test]
+    fn strips_of_the_widest_sheet_have_c_and_t_beyond_32_bits() {
+        let far = 1_000_000;
         let table = built(&[-far, -far, far, -far, far, far]);
-        // u = (32766, 32766); the middle point is 32766 to the right of it: c = -32766^2.
-        assert_eq!(table[3..7], [-1_073_610_756, 0, 0, 2_147_221_512]);
+        // u = (2000000, 2000000); the middle point is 2000000 to the right of it: c = -2000000^2.
+        assert_eq!(table[3..7], [-4_000_000_000_000, 0, 0, 8_000_000_000_000]);
+    }
+
+    #[test]
+    fn shortfall_does_not_wrap_for_any_span_with_0_in_it() {
+        let far = 8_000_000_000_000;
+        let ends = [0, 1, far, 1 << 62, i64::MAX];
+        for (below, above) in ends.iter().flat_map(|&b| ends.iter().map(move |&a| (b, a))) {
+            for least in [-below, -below - 1] {
+                let span = Span {
+                    least,
+                    greatest: above,
+                };
+                for value in [-far, -far + 1, -1, 0, 1, far - 1, far] {
+                    let (low, high) = (i128::from(least), i128::from(above));
+                    let v = i128::from(value);
+                    let expected = (low - v).max(v - high).max(0);
+                    assert_eq!(i128::from(span.shortfall(value)), expected);
+                }
+            }
+        }
     }
 
     #[test]
     fn off_the_sheet_comes_before_equal_neighbours() {
         let mut table = [0; 99];
-        let both = [0, 0, 0, 0, 5, 5, 16384, 0, 0, 16384];
+        let both = [0, 0, 0, 0, 5, 5, 1_000_001, 0, 0, 1_000_001];
         assert_eq!(build(Name::A, &both, &mut table), refusal(4, 3));
         let equal = [0, 0, 1, 1, 1, 1, 1, 1];
         assert_eq!(build(Name::A, &equal, &mut table), refusal(5, 1));
@@ -482,10 +560,10 @@ mod tests {
 
     #[test]
     fn odd_length_and_too_few_points_are_refused_first() {
-        assert_eq!(build(Name::A, &[99_999], &mut []), refusal(1, 0));
+        assert_eq!(build(Name::A, &[9_999_999], &mut []), refusal(1, 0));
         assert_eq!(build(Name::A, &[], &mut []), refusal(2, 0));
-        assert_eq!(build(Name::A, &[99_999, 0], &mut []), refusal(2, 0));
-        let off_and_no_table = build(Name::A, &[99_999, 0, 0, 0], &mut []);
+        assert_eq!(build(Name::A, &[9_999_999, 0], &mut []), refusal(2, 0));
+        let off_and_no_table = build(Name::A, &[9_999_999, 0, 0, 0], &mut []);
         assert_eq!(off_and_no_table, refusal(4, 0));
     }
 }

@@ -1,9 +1,10 @@
 //! The four questions by the written walk, with visits counted against an allowance.
 //!
 //! docs/RULES.md, section 4. Each walk is a loop over a stack of nodes that are due, the
-//! next one on top; taking a node from the stack is what makes a visit due. Values stay in i64:
-//! a checked row has cmin <= 0 <= cmax (t likewise), so a shortfall is at most |c(z)| < 2^31, and
-//! D^2 * |u|^2 < 2^61.
+//! next one on top; taking a node from the stack is what makes a visit due. A row may hold any
+//! 64-bit numbers: it is checked before anything is computed from it. A good one has its box and its
+//! two ends on the sheet, so c and t fit i64, and cmin <= 0 <= cmax (t likewise), so a shortfall is
+//! at most |c(z)| < 2^43. Squares are compared in i128: D^2 * |u|^2 is below 2^85.
 
 use crate::geometry::{
     all_points, crosses, on_segment, point, share_point, within, Name, Point, Segment,
@@ -45,12 +46,12 @@ impl Outcome {
 #[derive(Clone, Copy)]
 pub struct Tree<'a> {
     pub name: Name,
-    pub points: &'a [i32],
-    pub table: &'a [i32],
+    pub points: &'a [i64],
+    pub table: &'a [i64],
 }
 
 /// NEAR: is `z` within `d` of the line?
-pub fn near(a: Tree, z: Point, d: i32, allowance: u32) -> Outcome {
+pub fn near(a: Tree, z: Point, d: i64, allowance: u32) -> Outcome {
     let checked = a
         .check()
         .and_then(|()| check_distance(d))
@@ -88,7 +89,7 @@ pub fn side(a: Tree, z: Point, allowance: u32) -> Outcome {
 }
 
 /// AGREE: is each point of either line near the other?
-pub fn agree(a: Tree, b: Tree, d: i32, allowance: u32) -> Outcome {
+pub fn agree(a: Tree, b: Tree, d: i64, allowance: u32) -> Outcome {
     let checked = a
         .check()
         .and_then(|()| b.check())
@@ -110,7 +111,7 @@ fn yes_or_no(found: bool) -> Answer {
 }
 
 /// Refusal 7.
-fn check_distance(d: i32) -> Result<(), Refusal> {
+fn check_distance(d: i64) -> Result<(), Refusal> {
     if (0..=FARTHEST).contains(&d) {
         Ok(())
     } else {
@@ -221,6 +222,22 @@ struct View {
 }
 
 impl View {
+    /// Does the strip alone keep `z` farther than `d` from all of the node?
+    fn far_from(&self, z: Point, d: i64) -> bool {
+        let gc = i128::from(self.extents.c.shortfall(self.frame.c(z.x, z.y)));
+        let gt = i128::from(self.extents.t.shortfall(self.frame.t(z.x, z.y)));
+        let d = i128::from(d);
+        gc * gc + gt * gt > d * d * i128::from(self.frame.square())
+    }
+
+    /// Is `z` strictly outside the box or the strip?
+    fn clear_of(&self, z: Point) -> bool {
+        !(self.extents.x.holds(z.x)
+            && self.extents.y.holds(z.y)
+            && self.extents.c.holds(self.frame.c(z.x, z.y))
+            && self.extents.t.holds(self.frame.t(z.x, z.y)))
+    }
+
     /// c and t of this node at the four corners of the other's box fall on one side of the strip.
     fn strip_misses_box(&self, other: &View) -> bool {
         let (x, y) = (other.extents.x, other.extents.y);
@@ -271,40 +288,11 @@ impl Tree<'_> {
     /// Reads the row of a node, or refuses it as bad (refusal 10).
     fn read(&self, node: Node) -> Result<View, Stop> {
         let row = &self.table[ROW * node.row..][..ROW];
-        let span = |at: usize| Span {
-            least: i64::from(row[at]),
-            greatest: i64::from(row[at + 1]),
-        };
-        let extents = Extents {
-            c: span(3),
-            t: span(5),
-            x: span(7),
-            y: span(9),
-        };
         let chord = Segment {
             from: point(self.points, node.first),
             to: point(self.points, node.last),
         };
-        let is_leaf = node.segments() == 1;
-        // Indices are at most 4,096, so as i64 they compare with the row's numbers exactly.
-        let (first, last) = (node.first as i64, node.last as i64);
-        let split = i64::from(row[2]);
-        let sheet = i64::from(SHEET);
-        let is_side = |s: Span| -sheet <= s.least && s.least <= s.greatest && s.greatest <= sheet;
-        let good = i64::from(row[0]) == first
-            && i64::from(row[1]) == last
-            && if is_leaf {
-                split == -1 && chord.from != chord.to
-            } else {
-                first < split && split < last
-            }
-            && extents.c.holds(0)
-            && extents.t.holds(0)
-            && is_side(extents.x)
-            && is_side(extents.y)
-            && on_sheet(chord.from)
-            && on_sheet(chord.to);
-        if !good {
+        if !good(row, node, chord) {
             return Err(Stop::Refused(Refusal {
                 number: 10,
                 line: Some(self.name),
@@ -314,30 +302,61 @@ impl Tree<'_> {
         Ok(View {
             chord,
             frame: Frame::of(chord.from, chord.to),
-            extents,
-            split: if is_leaf { None } else { Some(split as usize) },
+            extents: extents(row),
+            split: (node.segments() > 1).then_some(row[2] as usize),
         })
     }
+}
+
+/// The strip and the box of a row.
+fn extents(row: &[i64]) -> Extents {
+    let span = |at: usize| Span {
+        least: row[at],
+        greatest: row[at + 1],
+    };
+    Extents {
+        c: span(3),
+        t: span(5),
+        x: span(7),
+        y: span(9),
+    }
+}
+
+/// Is the row good for that node, whose first and last points are those of the chord?
+fn good(row: &[i64], node: Node, chord: Segment) -> bool {
+    // Indices are at most 4,096, so as i64 they compare with the row's numbers exactly.
+    let (first, last, split) = (node.first as i64, node.last as i64, row[2]);
+    let split_good = if node.segments() == 1 {
+        split == -1 && chord.from != chord.to
+    } else {
+        first < split && split < last
+    };
+    let extents = extents(row);
+    let side_good = |s: Span| -SHEET <= s.least && s.least <= s.greatest && s.greatest <= SHEET;
+    row[..2] == [first, last]
+        && split_good
+        && extents.c.holds(0)
+        && extents.t.holds(0)
+        && side_good(extents.x)
+        && side_good(extents.y)
+        && on_sheet(chord.from)
+        && on_sheet(chord.to)
 }
 
 /// `due` is lent so that AGREE asks for its room once.
 fn walk_near(
     tree: Tree,
     z: Point,
-    d: i32,
+    d: i64,
     tally: &mut Tally,
     due: &mut Vec<Node>,
 ) -> Result<bool, Stop> {
-    let (zx, zy) = (i64::from(z.x), i64::from(z.y));
-    let d_square = i64::from(d) * i64::from(d);
     due.clear();
     due.push(tree.root());
     while let Some(node) = due.pop() {
         tally.visit()?;
         let view = tree.read(node)?;
-        let gc = view.extents.c.shortfall(view.frame.c(zx, zy));
-        let gt = view.extents.t.shortfall(view.frame.t(zx, zy));
-        if gc * gc + gt * gt > d_square * view.frame.square() {
+        if view.far_from(z, d) {
             continue;
         }
         match view.split {
@@ -388,19 +407,14 @@ fn walk_meet(a: Tree, b: Tree, tally: &mut Tally) -> Result<bool, Stop> {
 }
 
 fn walk_side(ring: Tree, z: Point, tally: &mut Tally) -> Result<Answer, Stop> {
-    let (zx, zy) = (i64::from(z.x), i64::from(z.y));
     let mut odd = false;
     let mut due = vec![ring.root()];
     while let Some(node) = due.pop() {
         tally.visit()?;
         let view = ring.read(node)?;
-        let outside = !(view.extents.x.holds(zx)
-            && view.extents.y.holds(zy)
-            && view.extents.c.holds(view.frame.c(zx, zy))
-            && view.extents.t.holds(view.frame.t(zx, zy)));
         match view.split {
-            // Outside, the run winds round z as its chord does; equal ends cross nothing.
-            _ if outside => odd ^= crosses(view.chord, z),
+            // Seen from outside the run winds as its chord does; equal ends cross nothing.
+            _ if view.clear_of(z) => odd ^= crosses(view.chord, z),
             None if on_segment(view.chord, z) => return Ok(Answer::On),
             None => odd ^= crosses(view.chord, z),
             Some(split) => {
@@ -412,7 +426,7 @@ fn walk_side(ring: Tree, z: Point, tally: &mut Tally) -> Result<Answer, Stop> {
     Ok(if odd { Answer::Inside } else { Answer::Outside })
 }
 
-fn walk_agree(a: Tree, b: Tree, d: i32, tally: &mut Tally) -> Result<Answer, Stop> {
+fn walk_agree(a: Tree, b: Tree, d: i64, tally: &mut Tally) -> Result<Answer, Stop> {
     let mut due = Vec::new();
     for (of, other) in [(a, b), (b, a)] {
         for (index, p) in all_points(of.points).enumerate() {
@@ -437,15 +451,17 @@ mod tests {
     use crate::tree::{build, rows};
     use std::collections::BTreeSet;
 
-    const L: [i32; 6] = [0, 0, 4, 3, 8, 0];
-    const SQUARE: [i32; 10] = [0, 0, 4, 0, 4, 4, 0, 4, 0, 0];
+    const L: [i64; 6] = [0, 0, 4, 3, 8, 0];
+    const SQUARE: [i64; 10] = [0, 0, 4, 0, 4, 4, 0, 4, 0, 0];
+    /// The diagonal of the sheet.
+    const DIAGONAL: [i64; 4] = [-1_000_000, -1_000_000, 1_000_000, 1_000_000];
     const MOST: u32 = u32::MAX;
 
     /// A line with its own table.
     struct Built {
         name: Name,
-        points: Vec<i32>,
-        table: Vec<i32>,
+        points: Vec<i64>,
+        table: Vec<i64>,
     }
 
     impl Built {
@@ -458,7 +474,7 @@ mod tests {
         }
     }
 
-    fn built(name: Name, points: &[i32]) -> Built {
+    fn built(name: Name, points: &[i64]) -> Built {
         let mut table = vec![0; ROW * rows(points.len() / 2 - 1)];
         build(name, points, &mut table).expect("these points are sound");
         Built {
@@ -468,7 +484,7 @@ mod tests {
         }
     }
 
-    fn at(x: i32, y: i32) -> Point {
+    fn at(x: i64, y: i64) -> Point {
         Point { x, y }
     }
 
@@ -485,20 +501,20 @@ mod tests {
         says(Answer::Refused(refusal), visits)
     }
 
-    fn near_l(z: Point, d: i32, allowance: u32) -> Outcome {
+    fn near_l(z: Point, d: i64, allowance: u32) -> Outcome {
         near(built(Name::A, &L).tree(), z, d, allowance)
     }
 
-    fn meet_l(b: &[i32], allowance: u32) -> Outcome {
+    fn meet_l(b: &[i64], allowance: u32) -> Outcome {
         let (a, b) = (built(Name::A, &L), built(Name::B, b));
         meet(a.tree(), b.tree(), allowance)
     }
 
-    fn in_square(x: i32, y: i32) -> Outcome {
+    fn in_square(x: i64, y: i64) -> Outcome {
         side(built(Name::A, &SQUARE).tree(), at(x, y), MOST)
     }
 
-    fn agreeing(a: &[i32], b: &[i32], d: i32, allowance: u32) -> Outcome {
+    fn agreeing(a: &[i64], b: &[i64], d: i64, allowance: u32) -> Outcome {
         let (a, b) = (built(Name::A, a), built(Name::B, b));
         agree(a.tree(), b.tree(), d, allowance)
     }
@@ -573,11 +589,83 @@ mod tests {
     }
 
     #[test]
-    fn distance_32767_is_taken_and_32768_and_minus_1_refused_7() {
-        assert_eq!(near_l(at(4, 5), 32_767, 10), says(Answer::Yes, 2));
-        for d in [32_768, -1, i32::MIN, i32::MAX] {
+    fn figure_8_2_corner_of_the_sheet_is_between_1414213_and_1414214_from_the_diagonal() {
+        let diagonal = built(Name::A, &DIAGONAL);
+        let corner = at(1_000_000, -1_000_000);
+        for (d, answer) in [
+            (1_414_213, Answer::No),
+            (1_414_214, Answer::Yes),
+            (2_000_000, Answer::Yes),
+        ] {
+            assert_eq!(near(diagonal.tree(), corner, d, MOST), says(answer, 1));
+        }
+    }
+
+    #[test]
+    fn figure_8_3_distance_is_refused_7_and_the_asked_point_8() {
+        let diagonal = built(Name::A, &DIAGONAL);
+        for d in [2_000_001, -1] {
+            let outcome = near(diagonal.tree(), at(0, 0), d, MOST);
+            assert_eq!(outcome, refused(7, None, 0, 0));
+        }
+        let outcome = near(diagonal.tree(), at(1_000_001, 0), 0, MOST);
+        assert_eq!(outcome, refused(8, None, 0, 0));
+    }
+
+    #[test]
+    fn figure_8_6_box_beyond_the_old_sheet_is_good_and_beyond_the_sheet_bad() {
+        let mut a = built(Name::A, &L);
+        for (xmax, outcome) in [
+            (16_384, says(Answer::Yes, 2)),
+            (1_000_000, says(Answer::Yes, 2)),
+            (1_000_001, refused(10, Some(Name::A), 0, 1)),
+            ((1 << 32) + 8, refused(10, Some(Name::A), 0, 1)),
+        ] {
+            a.table[8] = xmax;
+            assert_eq!(near(a.tree(), at(4, 5), 2, MOST), outcome);
+        }
+    }
+
+    #[test]
+    fn figure_8_8_strip_that_begins_at_the_least_number_wraps_nothing() {
+        let mut a = built(Name::A, &L);
+        a.table[3] = i64::MIN;
+        let outcome = near(a.tree(), at(4, -9), 1, MOST);
+        assert_eq!(outcome, says(Answer::No, 3));
+    }
+
+    #[test]
+    fn strip_without_bounds_dismisses_nothing_and_changes_no_answer() {
+        let mut a = built(Name::A, &L);
+        for row in 0..3 {
+            let all = [i64::MIN, i64::MAX, i64::MIN, i64::MAX];
+            a.table[ROW * row + 3..][..4].copy_from_slice(&all);
+        }
+        let b = built(Name::B, &[4, 0, 4, 2]);
+        assert_eq!(near(a.tree(), at(4, 5), 1, MOST), says(Answer::No, 3));
+        assert_eq!(near(a.tree(), at(4, 5), 2, MOST), says(Answer::Yes, 2));
+        assert_eq!(meet(a.tree(), b.tree(), MOST).answer, Answer::No);
+        assert_eq!(agree(a.tree(), b.tree(), 5, MOST).answer, Answer::Yes);
+    }
+
+    #[test]
+    fn distance_2000000_is_taken_and_2000001_and_minus_1_refused_7() {
+        assert_eq!(near_l(at(4, 5), 2_000_000, 10), says(Answer::Yes, 2));
+        assert_eq!(agreeing(&L, &L, 2_000_000, 99).answer, Answer::Yes);
+        for d in [2_000_001, -1, (1 << 32) + 2, i64::MIN, i64::MAX] {
             assert_eq!(near_l(at(4, 5), d, 10), refused(7, None, 0, 0));
             assert_eq!(agreeing(&L, &L, d, 10), refused(7, None, 0, 0));
+        }
+    }
+
+    #[test]
+    fn asked_point_of_64_bits_is_refused_8_also_where_its_low_32_bits_are_on_the_sheet() {
+        let ring = built(Name::A, &SQUARE);
+        for off in [1_000_001, -1_000_001, (1 << 32) + 4, i64::MIN, i64::MAX] {
+            for z in [at(off, 4), at(4, off)] {
+                assert_eq!(near_l(z, 2, MOST), refused(8, None, 0, 0));
+                assert_eq!(side(ring.tree(), z, MOST), refused(8, None, 0, 0));
+            }
         }
     }
 
@@ -594,6 +682,20 @@ mod tests {
             ([-50, 913, 6515, 8185], at(4922, 8447), 1357, Answer::No),
             ([0, -16383, 5137, -16382], at(-1, -6109), 10274, Answer::No),
             ([0, -16383, 5137, -16382], at(-1, -6109), 10275, Answer::Yes),
+            // u = (1000000, 1), c^2 is D^2 * |u|^2 + 1.
+            (
+                [0, -1_000_000, 1_000_000, -999_999],
+                at(-1, 1_000_000),
+                2_000_000,
+                Answer::No,
+            ),
+            // u = (707, 1), c^2 is D^2 * |u|^2 - 1.
+            (
+                [0, -1_000_000, 707, -999_999],
+                at(-2_121, 999_396),
+                1_999_397,
+                Answer::Yes,
+            ),
         ];
         for (line, z, d, answer) in cases {
             let a = built(Name::A, &line);
@@ -602,9 +704,30 @@ mod tests {
     }
 
     #[test]
+    fn far_node_is_dismissed_by_1_in_the_square() {
+        // The inner point lies on the other side than z, so the strip ends at the chord, which has
+        // u = (999990, 1), and c^2 is D^2 * |u|^2 + 1.
+        let line = [0, -999_985, 500_000, -999_990, 999_990, -999_984];
+        let a = built(Name::A, &line);
+        let z = at(-1, 999_995);
+        assert_eq!(near(a.tree(), z, 1_999_980, MOST), says(Answer::No, 1));
+        assert_eq!(near(a.tree(), z, 1_999_981, MOST), says(Answer::Yes, 2));
+    }
+
+    #[test]
+    fn far_node_that_is_exactly_d_away_is_not_dismissed() {
+        // u = 200000 * (4, 3), |u| = 1000000; z is 1000000 to the left of it, the line to the right.
+        let line = [-400_000, -300_000, 300_000, -500_000, 400_000, 300_000];
+        let a = built(Name::A, &line);
+        let z = at(-600_000, 800_000);
+        assert_eq!(near(a.tree(), z, 999_999, MOST), says(Answer::No, 1));
+        assert_eq!(near(a.tree(), z, 1_000_000, MOST), says(Answer::No, 3));
+    }
+
+    #[test]
     fn every_allowance_below_the_exact_one_is_undecided_and_none_above_changes_the_answer() {
-        let zigzag: Vec<i32> = (0..30).flat_map(|i| [i, i % 2 * 7]).collect();
-        let other: Vec<i32> = (0..30).flat_map(|i| [i, i % 3 * 3 + 1]).collect();
+        let zigzag: Vec<i64> = (0..30).flat_map(|i| [i, i % 2 * 7]).collect();
+        let other: Vec<i64> = (0..30).flat_map(|i| [i, i % 3 * 3 + 1]).collect();
         let mut ring = zigzag.clone();
         ring.extend([29, -1, 0, -1, 0, 0]);
         let (a, b) = (built(Name::A, &zigzag), built(Name::B, &other));
@@ -668,9 +791,9 @@ mod tests {
 
     #[test]
     fn agree_takes_at_most_the_visits_that_are_enough() {
-        let zigzag: Vec<i32> = (0..20).flat_map(|i| [i, i % 2 * 7]).collect();
+        let zigzag: Vec<i64> = (0..20).flat_map(|i| [i, i % 2 * 7]).collect();
         let (n, m) = (19, 2);
-        let outcome = agreeing(&zigzag, &L, 32_767, MOST);
+        let outcome = agreeing(&zigzag, &L, 2_000_000, MOST);
         assert_eq!(outcome.answer, Answer::Yes);
         assert!(outcome.visits <= (n + 1) * (2 * m - 1) + (m + 1) * (2 * n - 1));
     }
@@ -707,7 +830,7 @@ mod tests {
 
     #[test]
     fn distance_is_refused_before_the_asked_point_and_that_before_the_ring() {
-        let off = at(16_384, 0);
+        let off = at(1_000_001, 0);
         assert_eq!(near_l(off, -1, 0), refused(7, None, 0, 0));
         assert_eq!(near_l(off, 0, 0), refused(8, None, 0, 0));
         let open = built(Name::A, &L);
@@ -717,7 +840,7 @@ mod tests {
     #[test]
     fn agree_refuses_a_point_off_the_sheet_when_it_comes_up() {
         let mut a = built(Name::A, &L);
-        a.points[5] = 20_000;
+        a.points[5] = 1_000_001;
         let b = built(Name::B, &[0, 0, 8, 0]);
         let outcome = agree(a.tree(), b.tree(), 100, MOST);
         assert_eq!(outcome, refused(8, Some(Name::A), 2, 2));
@@ -736,11 +859,11 @@ mod tests {
             (4, -1),
             (5, 1),
             (6, -1),
-            (7, -16_384),
+            (7, -1_000_001),
             (7, 9),
-            (8, 16_384),
+            (8, 1_000_001),
             (9, 4),
-            (10, 16_384),
+            (10, 1_000_001),
             (11, 1),
             (12, 2),
             (13, 1),
@@ -751,27 +874,44 @@ mod tests {
             (24, 2),
         ];
         for (place, value) in bad {
-            let mut a = built(Name::A, &L);
-            a.table[place] = value;
-            let row = place / ROW;
-            // Far enough from the left leaf to reach the right one, near enough to reach both.
-            let outcome = near(a.tree(), at(4, 0), 2, MOST);
-            let visits = row as u32 + 1;
-            let expected = refused(10, Some(Name::A), row as u64, visits);
-            assert_eq!(outcome, expected, "{place} {value}");
+            l_is_refused_10(place, value);
         }
+    }
+
+    #[test]
+    fn row_that_is_good_in_its_low_32_bits_alone_is_refused_10() {
+        let table = built(Name::A, &L).table;
+        for place in [0, 1, 2, 7, 8, 9, 10, 11, 12, 13, 22, 23, 24] {
+            l_is_refused_10(place, table[place] + (1 << 32));
+            l_is_refused_10(place, table[place].wrapping_add(i64::MIN));
+        }
+        // Of a strip it is the sign that counts.
+        for place in [3, 5] {
+            l_is_refused_10(place, 1 << 32);
+            l_is_refused_10(place, i64::MAX);
+        }
+        for place in [4, 6] {
+            l_is_refused_10(place, -(1 << 32));
+            l_is_refused_10(place, i64::MIN);
+        }
+    }
+
+    /// The walk visits all rows of L, and the one with the bad number is its last.
+    fn l_is_refused_10(place: usize, value: i64) {
+        let mut a = built(Name::A, &L);
+        a.table[place] = value;
+        let row = place / ROW;
+        // Far enough from the left leaf to reach the right one, near enough to reach both.
+        let outcome = near(a.tree(), at(4, 0), 2, MOST);
+        let expected = refused(10, Some(Name::A), row as u64, row as u32 + 1);
+        assert_eq!(outcome, expected, "{place} {value}");
     }
 
     #[test]
     fn wrong_split_or_range_is_refused_10_at_its_own_row() {
         // (row of L, number in the row, bad value): 1 is its last, 2 its split.
-        let bad = [(0, 2, 2), (0, 2, 2_000_000_000), (0, 1, 3), (2, 2, 1)];
-        for (row, number, value) in bad {
-            let mut a = built(Name::A, &L);
-            a.table[ROW * row + number] = value;
-            let outcome = near(a.tree(), at(4, 0), 2, MOST);
-            let expected = refused(10, Some(Name::A), row as u64, row as u32 + 1);
-            assert_eq!(outcome, expected, "{row} {number} {value}");
+        for (row, number, value) in [(0, 2, 2), (0, 2, i64::MAX), (0, 1, 3), (2, 2, 1)] {
+            l_is_refused_10(ROW * row + number, value);
         }
         let mut one_higher = built(Name::B, &[0, 1, 4, 4, 8, 1]);
         one_higher.table[2] = 2;
@@ -781,9 +921,9 @@ mod tests {
 
     /// Each place of the table with each of: the least number, the greatest, -1 to the count of
     /// points.
-    fn damages(line: &Built) -> Vec<(usize, i32)> {
-        let count = line.points.len() as i32 / 2;
-        let values: Vec<i32> = (-1..=count).chain([i32::MIN, i32::MAX]).collect();
+    fn damages(line: &Built) -> Vec<(usize, i64)> {
+        let count = line.points.len() as i64 / 2;
+        let values: Vec<i64> = (-1..=count).chain([i64::MIN, i64::MAX]).collect();
         (0..line.table.len())
             .flat_map(|place| values.iter().map(move |&value| (place, value)))
             .collect()
@@ -831,7 +971,7 @@ mod tests {
     #[test]
     fn points_that_a_row_stands_on_are_checked_with_it() {
         let mut off = built(Name::A, &L);
-        off.points[4] = 16_384;
+        off.points[4] = 1_000_001;
         let outcome = near(off.tree(), at(4, 0), 2, MOST);
         assert_eq!(outcome, refused(10, Some(Name::A), 0, 1));
         let mut equal = built(Name::A, &L);

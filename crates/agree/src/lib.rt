@@ -10,10 +10,10 @@ ghost use Rattle.rules.specs.Questions.{agreeReply};
 
 // Whether two lines agree at a distance: refusals 1, 2, 3, 6 of A, then of B, then 7, then the walks.
 pub fn agree(
-    points_a: &[i32],
-    table_a: &[i32],
-    points_b: &[i32],
-    table_b: &[i32],
+    points_a: &[i64],
+    table_a: &[i64],
+    points_b: &[i64],
+    table_b: &[i64],
     distance: i64,
     allowance: u32,
 ) -> Reply

@@ -27,7 +27,7 @@ pub struct Stopped {
 }
 
 // Point i of a line against the other: refusal 8, then the walk.
-fn ask_point(points: &[i32], i: usize, theirs: &&[i32], table: &&[i32], d: i64, tally: Tally) -> u64
+fn ask_point(points: &[i64], i: usize, theirs: &&[i64], table: &&[i64], d: i64, tally: Tally) -> u64
     requires { ⌜ (2 * i + 1 < length (now points)) × AsksLine (now (now theirs)) (now (now table)) d ⌝ }
     ensures { λ r. ⌜ Asks (now (points .entry)) (now (now (theirs .entry)))
         (now (now (table .entry))) d i 1 tally i r ⌝ }
@@ -40,7 +40,7 @@ fn ask_point(points: &[i32], i: usize, theirs: &&[i32], table: &&[i32], d: i64, 
 }
 
 // The points of a line in order against the other; the first that is not near ends it.
-pub fn ask_all(points: &[i32], theirs: &&[i32], table: &&[i32], d: i64, tally: Tally) -> Stopped
+pub fn ask_all(points: &[i64], theirs: &&[i64], table: &&[i64], d: i64, tally: Tally) -> Stopped
     requires { ⌜ AsksLine (now (now theirs)) (now (now table)) d ⌝ }
     ensures { λ r. ⌜ AsksAll (now (points .entry)) (now (now (theirs .entry))) (now (now (table .entry))) d tally r ⌝ }
 {
@@ -59,7 +59,7 @@ pub fn ask_all(points: &[i32], theirs: &&[i32], table: &&[i32], d: i64, tally: T
 }
 
 // Against a line that begins or ends off the sheet: the first point is asked, and the root's row that it meets is bad.
-pub fn bad_start(points: &[i32], tally: Tally) -> Stopped
+pub fn bad_start(points: &[i64], tally: Tally) -> Stopped
     requires { ⌜ 1 ≤ pointsOf (now points) ⌝ }
     ensures { λ r. ⌜ AsksAllOff (now (points .entry)) tally r ⌝ }
     ensures { λ r. ⌜ ENDED < endIn (r .ending) ⌝ }

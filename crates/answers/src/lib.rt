@@ -1,7 +1,6 @@
 // What a record is answered, asked as a question over the stores of the two lines: the tables that it needs are
 // readied; where they stand, it is asked of the points and of just their rows, and else what was refused is told.
 use desk::Held;
-use integers::wide;
 use ready::Needed;
 use ready::Readied;
 use ready::TablesBuilt;
@@ -41,24 +40,14 @@ fn needed_by(record: Record) -> Needed
     }
 }
 
-// A point that is asked for.
-fn point(x: i32, y: i32) -> Point
-    ensures { λ r. ⌜ r ≡ record { x = x; y = y } ⌝ }
-{
-    Point {
-        x: wide(x),
-        y: wide(y),
-    }
-}
-
 // The reply, of the points of two lines and of just their rows; what is no question is refusal 12.
 fn ask(
     record: Record,
     place: usize,
-    a: &[i32],
-    table_a: &[i32],
-    b: &[i32],
-    table_b: &[i32],
+    a: &[i64],
+    table_a: &[i64],
+    b: &[i64],
+    table_b: &[i64],
 ) -> Reply
     requires { ⌜ HasRows (neededBy «record») (now a) (now «table_a») (now b) (now «table_b») ⌝ }
     ensures { λ r. ⌜ r ≡ answerTo «record» place (now (a .entry)) (tableOf (now (a .entry)))
@@ -70,11 +59,11 @@ fn ask(
             y,
             distance,
             allowance,
-        } => near::near(a, rows(a, table_a), point(x, y), wide(distance), allowance),
+        } => near::near(a, rows(a, table_a), Point { x, y }, distance, allowance),
         Record::In { x, y, allowance } => inside::inside(
             a,
             rows(a, table_a),
-            point(x, y),
+            Point { x, y },
             allowance,
         ),
         Record::Meet(allowance) => meet::meet(a, rows(a, table_a), b, rows(b, table_b), allowance),
@@ -86,7 +75,7 @@ fn ask(
             rows(a, table_a),
             b,
             rows(b, table_b),
-            wide(distance),
+            distance,
             allowance,
         ),
         _ => refused(12, Line::NoLine, place, 0),
@@ -98,11 +87,11 @@ pub fn reply(
     record: Record,
     place: usize,
     held_a: Held,
-    points_a: &[i32],
-    table_a: &mut [i32],
+    points_a: &[i64],
+    table_a: &mut [i64],
     held_b: Held,
-    points_b: &[i32],
-    table_b: &mut [i32],
+    points_b: &[i64],
+    table_b: &mut [i64],
 ) -> Replied
     requires { ⌜ LentLine «held_a» (now «points_a») (now «table_a») ⌝ }
     requires { ⌜ LentLine «held_b» (now «points_b») (now «table_b») ⌝ }

@@ -9,18 +9,14 @@ use borrow.Author.Tests.{le-leb, lt-leb}
 use lib.IntN.{ℤ, pos}
 use lib.ListN.{length, take, drop, length-drop}
 use lib.Seq.{length-take-le}
-use Rattle.integers.specs.Laws.{cond-ind}
-use Rattle.integers.specs.Range.{Abs≤}
 use Rattle.rules.specs.declared.Row.{Row}
-use Rattle.rules.specs.Sheet.{segmentsOf, onSheet, most}
+use Rattle.rules.specs.Sheet.{segmentsOf, onSheet}
 use Rattle.rules.specs.Tree.{splitOf, measured, noSplit, isLeaf, numbers, rowsOf}
-use Rattle.table_truth.specs.RowRange.{AllFit}
 use Rattle.table_truth.proofs.Rows.{best-between, leaf-rows, inner-rows}
 use Rattle.table_truth.proofs.Part.{part-point, standing, split-part, measured-part}
-use Rattle.table_truth.proofs.Narrow.{measured-range, numbers-fit}
 use Rattle.run.specs.declared.Measured.{Measured}
 use Rattle.run.specs.Run.{AllOnSheet, measureOf}
-use Rattle.build.specs.Rows.{nodeRow, splitNumber}
+use Rattle.build.specs.Rows.{nodeRow}
 
 -- the row of a run from first to last, by what is measured of it
 abbrev pub rowOf : ℕ → ℕ → ℤ → Measured → Row
@@ -73,18 +69,6 @@ module _ (ps : List ℤ) (first last : ℕ) (order : first < last) (room : 2 * l
   run-split =
       ap (λ (n : ℕ). first + splitOf (runOf ps first last) 0 n) run-segments
       ∙ sym (split-part ps first last (2 * last + 2 - 2 * first) (omega arith) (omega arith))
-
-  -- and every number of the node's row fits an i32
-  pub row-fits : AllOnSheet ps → last < most → AllFit (numbers (nodeRow ps first last))
-  row-fits on few =
-      let s = splitOf ps first last in
-      let below = split-up-to ps first last order in
-      let small : Abs≤ most (splitNumber first last s) =
-      cond-ind (isLeaf first last) noSplit (pos s) (Abs≤ most) (λ _. record { abs = omega arith })
-      (λ _. record { abs = omega arith }) in
-      numbers-fit (nodeRow ps first last)
-      (measured-range ps first last (omega arith) (λ i a b. on i (omega arith)) (splitNumber first last s) (omega arith)
-      small)
 
 module _ (ps : List ℤ) (first last : ℕ) where
   -- by whether the node is a leaf

@@ -8,7 +8,7 @@ ghost use mathlib.Core.Path.{_≡_};
 ghost use Rattle.rules.specs.Build.{buildRefusal, builtTable};
 ghost use Rattle.rules.specs.Reply.{builtRefusal};
 
-pub fn build(points: &[i32], table: &mut [i32]) -> Built
+pub fn build(points: &[i64], table: &mut [i64]) -> Built
     ensures { λ r. ⌜ builtRefusal r ≡ buildRefusal (now (points .entry)) (now (table .entry)) ⌝ }
     ensures { λ _. ⌜ now (table .exit) ≡ builtTable (now (points .entry)) (now (table .entry)) ⌝ }
 {

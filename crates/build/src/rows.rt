@@ -8,13 +8,12 @@ ghost use Prim.Native.Nat.{ℕ, _+_, _*_, _-_, _<_, _≤_};
 ghost use lib.ListN.{length, drop};
 ghost use Rattle.rules.specs.Sheet.{most};
 ghost use Rattle.rules.specs.Tree.{splitOf, width, numbers, rowsOf, rowCount};
-ghost use Rattle.table_truth.specs.RowRange.{AllFit};
 ghost use Rattle.run.specs.Run.{AllOnSheet};
 ghost use Rattle.build.specs.Rows.{splitNumber, nodeRow, inOrder};
 
 // Writes the numbers of a row at the front of the table.
 fn put_numbers(
-    table: &mut [i32],
+    table: &mut [i64],
     first: i64,
     last: i64,
     split: i64,
@@ -28,21 +27,20 @@ fn put_numbers(
     ymax: i64,
 )
     requires { ⌜ width ≤ length (now table) ⌝ }
-    requires { ⌜ AllFit (inOrder first last split cmin cmax tmin tmax xmin xmax ymin ymax) ⌝ }
     ensures { λ _. ⌜ now (table .exit)
         ≡ inOrder first last split cmin cmax tmin tmax xmin xmax ymin ymax ++ drop width (now (table .entry)) ⌝ }
 {
-    table[column::FIRST] = first as i32;
-    table[column::LAST] = last as i32;
-    table[column::SPLIT] = split as i32;
-    table[column::CMIN] = cmin as i32;
-    table[column::CMAX] = cmax as i32;
-    table[column::TMIN] = tmin as i32;
-    table[column::TMAX] = tmax as i32;
-    table[column::XMIN] = xmin as i32;
-    table[column::XMAX] = xmax as i32;
-    table[column::YMIN] = ymin as i32;
-    table[column::YMAX] = ymax as i32;
+    table[column::FIRST] = first;
+    table[column::LAST] = last;
+    table[column::SPLIT] = split;
+    table[column::CMIN] = cmin;
+    table[column::CMAX] = cmax;
+    table[column::TMIN] = tmin;
+    table[column::TMAX] = tmax;
+    table[column::XMIN] = xmin;
+    table[column::XMAX] = xmax;
+    table[column::YMIN] = ymin;
+    table[column::YMAX] = ymax;
 }
 
 // The split as a row has it: -1 for a leaf.
@@ -58,7 +56,7 @@ fn split_number(first: usize, last: usize, split: usize) -> i64
 
 // Writes the row of a node, and gives the split point. The run of the node's points is handed on as a part that starts
 // in the middle of the line.
-fn put_row(points: &[i32], first: usize, last: usize, table: &mut [i32]) -> usize
+fn put_row(points: &[i64], first: usize, last: usize, table: &mut [i64]) -> usize
     requires { ⌜ (first < last) × (last < most) × (2 * last + 2 ≤ length (now points)) × AllOnSheet (now points)
         × (width ≤ length (now table)) ⌝ }
     ensures { λ r. ⌜ r ≡ splitOf (now (points .entry)) first last ⌝ }
@@ -89,7 +87,7 @@ fn put_row(points: &[i32], first: usize, last: usize, table: &mut [i32]) -> usiz
 // Writes the rows of the node that covers the points first to last at the front of the table: its own, and then those
 // of its halves, which share the split point. A row is put in two places: so the compiler keeps `put_row` a function of
 // its own, and what that works with is off the stack before the halves are built.
-pub fn build_node(points: &&[i32], first: usize, last: usize, table: &mut [i32])
+pub fn build_node(points: &&[i64], first: usize, last: usize, table: &mut [i64])
     requires { ⌜ (first < last) × (last < most) × (2 * last + 2 ≤ length (now (now points)))
         × AllOnSheet (now (now points)) × (2 * width * last ≤ length (now table) + 2 * width * first + width) ⌝ }
     ensures { λ _. ⌜ ((f : ℕ) → last ≤ f + first → now (table .exit)

@@ -17,7 +17,7 @@ ghost use Rattle.rules.specs.Build.{lowest, offSheet, equalNext, buildRefusal};
 ghost use Rattle.rules.specs.Reply.{builtRefusal};
 
 // The lowest point off the sheet, or count where there is none.
-fn lowest_off(points: &[i32], count: usize) -> usize
+fn lowest_off(points: &[i64], count: usize) -> usize
     requires { ⌜ 2 * count ≤ length (now points) ⌝ }
     ensures { λ r. ⌜ r ≡ lowest (offSheet (now (points .entry))) 0 count ⌝ }
 {
@@ -32,7 +32,7 @@ fn lowest_off(points: &[i32], count: usize) -> usize
 }
 
 // The lowest point that equals the next, or segments where there is none.
-fn lowest_equal(points: &[i32], segments: usize) -> usize
+fn lowest_equal(points: &[i64], segments: usize) -> usize
     requires { ⌜ 2 * segments + 2 ≤ length (now points) ⌝ }
     ensures { λ r. ⌜ r ≡ lowest (equalNext (now (points .entry))) 0 segments ⌝ }
 {
@@ -58,7 +58,7 @@ fn refuse(number: u32, place: usize) -> Built
 }
 
 // The first refusal, for a table of so many numbers.
-pub fn check(points: &[i32], room: usize) -> Built
+pub fn check(points: &[i64], room: usize) -> Built
     ensures { λ r. ⌜ ((t : List ℤ) → length t ≡ room → builtRefusal r ≡ buildRefusal (now (points .entry)) t) ⌝ }
 {
     if points.len() % 2 == 1 {

@@ -25,10 +25,10 @@ pub struct Fed {
 // A text line ends: the pending bytes are taken, and their outcome is printed.
 pub fn end_text(
     fed: Fed,
-    a: &mut [i32],
-    b: &mut [i32],
-    table_a: &mut [i32],
-    table_b: &mut [i32],
+    a: &mut [i64],
+    b: &mut [i64],
+    table_a: &mut [i64],
+    table_b: &mut [i64],
     text: &[u8],
     out: &mut [u8],
 ) -> Fed
@@ -55,10 +55,10 @@ pub fn end_text(
 
 pub fn feed_byte(
     fed: Fed,
-    a: &mut [i32],
-    b: &mut [i32],
-    table_a: &mut [i32],
-    table_b: &mut [i32],
+    a: &mut [i64],
+    b: &mut [i64],
+    table_a: &mut [i64],
+    table_b: &mut [i64],
     text: &mut [u8],
     byte: u8,
     out: &mut [u8],

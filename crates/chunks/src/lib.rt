@@ -41,10 +41,10 @@ pub fn opened() -> State
 // A chunk of the input: the bytes that it prints stand at the front of the lent slice.
 pub fn feed(
     state: State,
-    a: &mut [i32],
-    b: &mut [i32],
-    table_a: &mut [i32],
-    table_b: &mut [i32],
+    a: &mut [i64],
+    b: &mut [i64],
+    table_a: &mut [i64],
+    table_b: &mut [i64],
     text: &mut [u8],
     chunk: &[u8],
     out: &mut [u8],
@@ -71,10 +71,10 @@ pub fn feed(
 // The end of the input: a last text line may lack its line feed, and ends as if it had one.
 pub fn finish(
     state: State,
-    a: &mut [i32],
-    b: &mut [i32],
-    table_a: &mut [i32],
-    table_b: &mut [i32],
+    a: &mut [i64],
+    b: &mut [i64],
+    table_a: &mut [i64],
+    table_b: &mut [i64],
     text: &mut [u8],
     out: &mut [u8],
 ) -> usize

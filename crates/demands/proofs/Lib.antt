@@ -1,6 +1,7 @@
 -- What was asked for: what plain AGREE says (Agreement), and the four questions, of any sound table (Sound), of the
--- built one (Built), and of the program (Program).
+-- built one (Built), of an old one that is widened (Widened), and of the program (Program).
 pub mod Agreement
 pub mod Sound
 pub mod Built
+pub mod Widened
 pub mod Program

@@ -15,10 +15,7 @@ use sides::clear_of;
 use sides::crosses;
 use sides::on_segment;
 ghost use mathlib.Core.Path.{_≡_};
-ghost use mathlib.Core.Bool.{true, false};
 ghost use Prim.Native.Nat.{_<_};
-ghost use Rattle.rules.specs.Sheet.{most};
-ghost use Rattle.rules.specs.Questions.{leaf};
 ghost use Rattle.rules.specs.Sheet.{most};
 ghost use Rattle.limits.specs.Small.{OnSheet};
 ghost use Rattle.in_visit.specs.Steps.{leafStep, innerStep, Asks, Visits};
@@ -63,48 +60,21 @@ fn inner_step(r: Row, first: usize, last: usize, a: Point, b: Point, z: Point) -
     Step::Halve(split_of(r))
 }
 
-// A visit of a leaf that begins and ends on the sheet. It reads its row by itself, as the visit of a longer node does,
-// so that each holds in registers what it needs.
-fn visit_leaf(points: &[i32], table: &[i32], node: Node, z: Point) -> Step
-    requires { ⌜ Asks (now points) (now table) node z ⌝ }
-    requires { ⌜ leaf node ≡ true ⌝ }
-    ensures { λ s. ⌜ Visits (now (points .entry)) (now (table .entry)) node z s ⌝ }
-{
-    let first = node.first;
-    let last = node.last;
-    let r = row_at(table, node.row);
-    if !frame_good(r, first, last) {
-        return Step::Bad;
-    }
-    let a = point_at(points, first);
-    let b = point_at(points, last);
-    leaf_step(r, a, b, z)
-}
-
-// A visit of a node of more segments.
-fn visit_inner(points: &[i32], table: &[i32], node: Node, z: Point) -> Step
-    requires { ⌜ Asks (now points) (now table) node z ⌝ }
-    requires { ⌜ leaf node ≡ false ⌝ }
-    ensures { λ s. ⌜ Visits (now (points .entry)) (now (table .entry)) node z s ⌝ }
-{
-    let first = node.first;
-    let last = node.last;
-    let r = row_at(table, node.row);
-    if !frame_good(r, first, last) {
-        return Step::Bad;
-    }
-    let a = point_at(points, first);
-    let b = point_at(points, last);
-    inner_step(r, first, last, a, b, z)
-}
-
 // A visit of a node whose ends are known to be on the sheet.
-pub fn visit(points: &[i32], table: &[i32], node: Node, z: Point) -> Step
+pub fn visit(points: &[i64], table: &[i64], node: Node, z: Point) -> Step
     requires { ⌜ Asks (now points) (now table) node z ⌝ }
     ensures { λ s. ⌜ Visits (now (points .entry)) (now (table .entry)) node z s ⌝ }
 {
-    if node.last <= node.first + 1 {
-        return visit_leaf(points, table, node, z);
+    let first = node.first;
+    let last = node.last;
+    let r = row_at(table, node.row);
+    let a = point_at(points, first);
+    let b = point_at(points, last);
+    if !frame_good(r, first, last) {
+        return Step::Bad;
     }
-    visit_inner(points, table, node, z)
+    if last <= first + 1 {
+        return leaf_step(r, a, b, z);
+    }
+    inner_step(r, first, last, a, b, z)
 }

@@ -27,15 +27,15 @@ ghost use Rattle.in_walk.specs.Walks.{Walks, Comes};
 // the left half came to. A split off the sheet makes the left half's row bad. Plain numbers and thin references stay in
 // registers.
 fn walk(
-    points: &&[i32],
-    table: &&[i32],
+    points: &&[i64],
+    table: &&[i64],
     row: usize,
     first: usize,
     last: usize,
+    tally: Tally,
     odd: bool,
     x: i64,
     y: i64,
-    tally: Tally,
 ) -> u64
     requires { ⌜ Asks (now (now points)) (now (now table)) (nodeAt row first last) (record { x = x; y = y }) ⌝ }
     ensures { λ r. ⌜ Walks (now (now (points .entry))) (now (now (table .entry))) row first last odd x y tally r ⌝ }
@@ -52,20 +52,20 @@ fn walk(
             if !on_sheet_at(*points, split) {
                 return bad_row_due(counted, next_row);
             }
-            let left = walk(points, table, next_row, first, split, odd, x, y, counted);
+            let left = walk(points, table, next_row, first, split, counted, odd, x, y);
             if stopped(left) {
                 return left;
             }
             let right = row + 2 * (split - first);
             let next_odd = odd_in(left);
             let next = tally_in(counted.allowance, left);
-            walk(points, table, right, split, last, next_odd, x, y, next)
+            walk(points, table, right, split, last, next, next_odd, x, y)
         }
     }
 }
 
 // The walk from the root, unless the line begins or ends off the sheet: then its root's row is bad.
-pub fn ask(points: &&[i32], table: &&[i32], z: Point, allowance: u32) -> u64
+pub fn ask(points: &&[i64], table: &&[i64], z: Point, allowance: u32) -> u64
     requires { ⌜ LengthsFine (now (now points)) (now (now table)) × OnSheet z ⌝ }
     ensures { λ r. ⌜ Comes (now (now (points .entry))) (now (now (table .entry))) z allowance r ⌝ }
 {
@@ -77,5 +77,5 @@ pub fn ask(points: &&[i32], table: &&[i32], z: Point, allowance: u32) -> u64
         return bad_row_due(fresh, 0);
     }
     let last = points.len() / 2 - 1;
-    walk(points, table, 0, 0, last, false, z.x, z.y, fresh)
+    walk(points, table, 0, 0, last, fresh, false, z.x, z.y)
 }

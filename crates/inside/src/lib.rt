@@ -21,7 +21,7 @@ ghost use Rattle.rules.specs.Rows.{ringCheck};
 ghost use Rattle.ending.specs.Ending.{walkedIn};
 
 // Refusal 9: fewer than 4 points, or first and last differ.
-fn no_ring(points: &[i32]) -> bool
+fn no_ring(points: &[i64]) -> bool
     requires { ⌜ 4 ≤ length (now points) ⌝ }
     ensures { λ r. ⌜ r ≡ ringCheck Line.LineA (now (points .entry)) .holds ⌝ }
 {
@@ -54,7 +54,7 @@ fn side_of_ring(ending: u64, allowance: u32) -> Reply
 }
 
 // Which side of the ring z is on, by at most this many visits. Refusals 1, 2, 3, 6, 8, 9, then the walk.
-pub fn inside(points: &[i32], table: &[i32], z: Point, allowance: u32) -> Reply
+pub fn inside(points: &[i64], table: &[i64], z: Point, allowance: u32) -> Reply
     ensures { λ r. ⌜ r ≡ inReply (now (points .entry)) (now (table .entry)) z allowance ⌝ }
 {
     if let Checked::Refused(refusal) = check_lengths(Line::LineA, points, table) {

@@ -17,10 +17,10 @@ use reading::pass;
 const LAST: u64 = u64::MAX - CHUNK_BYTES as u64;
 
 fn main() {
-    let mut a = [0i32; STORE_NUMBERS];
-    let mut b = [0i32; STORE_NUMBERS];
-    let mut table_a = [0i32; TABLE_NUMBERS];
-    let mut table_b = [0i32; TABLE_NUMBERS];
+    let mut a = [0i64; STORE_NUMBERS];
+    let mut b = [0i64; STORE_NUMBERS];
+    let mut table_a = [0i64; TABLE_NUMBERS];
+    let mut table_b = [0i64; TABLE_NUMBERS];
     let mut text = [0u8; KEPT_BYTES];
     let mut chunk = [0u8; CHUNK_BYTES];
     let mut out = [0u8; WRITTEN_BYTES];

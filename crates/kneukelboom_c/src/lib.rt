@@ -7,8 +7,9 @@ use rules::Reply;
 use rules::Word;
 use rules::refuses;
 ghost use mathlib.Core.Path.{_≡_};
-ghost use mathlib.Core.Option.{none};
 ghost use Rattle.rules.specs.Build.{buildRefusal, builtTable};
+ghost use Rattle.rules.specs.Old.{widenRefusal, widened};
+ghost use Rattle.rules.specs.Reply.{builtRefusal};
 ghost use Rattle.rules.specs.Questions.{nearReply, meetReply, inReply, agreeReply};
 ghost use Rattle.kneukelboom_c.specs.Codes.{wordCode, lineCode, coded, codedBuild};
 
@@ -62,34 +63,42 @@ fn coded(reply: Reply) -> KneukelboomReply
     }
 }
 
-// A built table, in numbers.
-fn written() -> KneukelboomReply
-    ensures { λ r. ⌜ r ≡ codedBuild none ⌝ }
+// What a build or a widening came to, in numbers.
+fn coded_built(built: Built) -> KneukelboomReply
+    ensures { λ r. ⌜ r ≡ codedBuild (builtRefusal built) ⌝ }
 {
-    KneukelboomReply {
-        word: 0,
-        visits: 0,
-        number: 0,
-        line: 0,
-        place: 0,
-    }
-}
-
-#[no_mangle]
-pub extern "C" fn kneukelboom_build_v1(points: &[i32], table: &mut [i32]) -> KneukelboomReply
-    ensures { λ r. ⌜ r ≡ codedBuild (buildRefusal (now (points .entry)) (now (table .entry))) ⌝ }
-    ensures { λ _. ⌜ now (table .exit) ≡ builtTable (now (points .entry)) (now (table .entry)) ⌝ }
-{
-    match build::build(points, table) {
-        Built::Written => written(),
+    match built {
+        Built::Written => KneukelboomReply {
+            word: 0,
+            visits: 0,
+            number: 0,
+            line: 0,
+            place: 0,
+        },
         Built::Refused(refusal) => coded(refuses(refusal)),
     }
 }
 
 #[no_mangle]
-pub extern "C" fn kneukelboom_near_v1(
-    points: &[i32],
-    table: &[i32],
+pub extern "C" fn kneukelboom_widen_v2(old: &[i32], new: &mut [i64]) -> KneukelboomReply
+    ensures { λ r. ⌜ r ≡ codedBuild (widenRefusal (now (old .entry)) (now (new .entry))) ⌝ }
+    ensures { λ _. ⌜ now (new .exit) ≡ widened (now (old .entry)) (now (new .entry)) ⌝ }
+{
+    coded_built(widen::widen(old, new))
+}
+
+#[no_mangle]
+pub extern "C" fn kneukelboom_build_v2(points: &[i64], table: &mut [i64]) -> KneukelboomReply
+    ensures { λ r. ⌜ r ≡ codedBuild (buildRefusal (now (points .entry)) (now (table .entry))) ⌝ }
+    ensures { λ _. ⌜ now (table .exit) ≡ builtTable (now (points .entry)) (now (table .entry)) ⌝ }
+{
+    coded_built(build::build(points, table))
+}
+
+#[no_mangle]
+pub extern "C" fn kneukelboom_near_v2(
+    points: &[i64],
+    table: &[i64],
     x: i64,
     y: i64,
     distance: i64,
@@ -102,9 +111,9 @@ pub extern "C" fn kneukelboom_near_v1(
 }
 
 #[no_mangle]
-pub extern "C" fn kneukelboom_inside_v1(
-    points: &[i32],
-    table: &[i32],
+pub extern "C" fn kneukelboom_inside_v2(
+    points: &[i64],
+    table: &[i64],
     x: i64,
     y: i64,
     allowance: u32,
@@ -116,11 +125,11 @@ pub extern "C" fn kneukelboom_inside_v1(
 }
 
 #[no_mangle]
-pub extern "C" fn kneukelboom_meet_v1(
-    points_a: &[i32],
-    table_a: &[i32],
-    points_b: &[i32],
-    table_b: &[i32],
+pub extern "C" fn kneukelboom_meet_v2(
+    points_a: &[i64],
+    table_a: &[i64],
+    points_b: &[i64],
+    table_b: &[i64],
     allowance: u32,
 ) -> KneukelboomReply
     ensures { λ r. ⌜ r ≡ coded (meetReply (now («points_a» .entry)) (now («table_a» .entry))
@@ -130,11 +139,11 @@ pub extern "C" fn kneukelboom_meet_v1(
 }
 
 #[no_mangle]
-pub extern "C" fn kneukelboom_agree_v1(
-    points_a: &[i32],
-    table_a: &[i32],
-    points_b: &[i32],
-    table_b: &[i32],
+pub extern "C" fn kneukelboom_agree_v2(
+    points_a: &[i64],
+    table_a: &[i64],
+    points_b: &[i64],
+    table_b: &[i64],
     distance: i64,
     allowance: u32,
 ) -> KneukelboomReply

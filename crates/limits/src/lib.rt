@@ -13,13 +13,11 @@ pub const MOST: usize = 4097;
 
 pub const MOST_ROWS: usize = 2 * (MOST - 1) - 1;
 
-// Coordinates are -LIMIT to LIMIT; NUMBER_LIMIT is the same for a number of a slice.
-pub const LIMIT: i64 = 16383;
-
-pub const NUMBER_LIMIT: i32 = LIMIT as i32;
+// Coordinates are -LIMIT to LIMIT.
+pub const LIMIT: i64 = 1000000;
 
 // A distance is 0 to FARTHEST.
-pub const FARTHEST: i64 = 32767;
+pub const FARTHEST: i64 = 2000000;
 
 // The program's store of a line has room for ROOM points; the numbers of a store, and of a table for as many points.
 pub const ROOM: usize = 257;

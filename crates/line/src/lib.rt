@@ -1,10 +1,8 @@
 // Points as the machine reads them: a point out of a slice, steps, c and t, and the lengths that refusals 1, 2, 3 and 6
 // ask for. Every function says its result by a definition of `rules`.
-use integers::wide;
 use limits::FEWEST;
 use limits::LIMIT;
 use limits::MOST;
-use limits::NUMBER_LIMIT;
 use limits::WIDTH;
 use rules::Line;
 use rules::Point;
@@ -34,41 +32,34 @@ pub fn greater(a: i64, b: i64) -> i64
 }
 
 // Point i of a line.
-pub fn point_at(points: &[i32], i: usize) -> Point
+pub fn point_at(points: &[i64], i: usize) -> Point
     requires { ⌜ 2 * i + 1 < length (now points) ⌝ }
     ensures { λ r. ⌜ r ≡ point (now (points .entry)) i ⌝ }
 {
     Point {
-        x: wide(points[2 * i]),
-        y: wide(points[2 * i + 1]),
+        x: points[2 * i],
+        y: points[2 * i + 1],
     }
 }
 
 pub fn in_sheet(v: i64) -> bool
     ensures { λ r. ⌜ r ≡ inSheet v ⌝ }
 {
-    -LIMIT <= v && v <= LIMIT
+    (-LIMIT <= v) & (v <= LIMIT)
 }
 
 pub fn on_sheet(p: Point) -> bool
     ensures { λ r. ⌜ r ≡ onSheet p ⌝ }
 {
-    in_sheet(p.x) && in_sheet(p.y)
+    in_sheet(p.x) & in_sheet(p.y)
 }
 
-fn number_in_sheet(v: i32) -> bool
-    ensures { λ r. ⌜ r ≡ inSheet v ⌝ }
-{
-    (-NUMBER_LIMIT <= v) & (v <= NUMBER_LIMIT)
-}
-
-// Whether point i of a line is on the sheet, asked of its numbers as they stand: vector instructions compare four
-// of them at once.
-pub fn on_sheet_at(points: &[i32], i: usize) -> bool
+// Whether point i of a line is on the sheet.
+pub fn on_sheet_at(points: &[i64], i: usize) -> bool
     requires { ⌜ 2 * i + 1 < length (now points) ⌝ }
     ensures { λ r. ⌜ r ≡ onSheet (point (now (points .entry)) i) ⌝ }
 {
-    number_in_sheet(points[2 * i]) & number_in_sheet(points[2 * i + 1])
+    on_sheet(point_at(points, i))
 }
 
 pub fn same_point(a: Point, b: Point) -> bool
@@ -154,7 +145,7 @@ pub fn early(number: u32, line: Line) -> Refusal
 }
 
 // Refusals 1, 2, 3 and 6 of a line and its table.
-pub fn check_lengths(line: Line, points: &[i32], table: &[i32]) -> Checked
+pub fn check_lengths(line: Line, points: &[i64], table: &[i64]) -> Checked
     ensures { λ r. ⌜ checkedRefusal r ≡ firstRefusal (lengthChecks line (now (points .entry)) (now (table .entry))) ⌝ }
 {
     if points.len() % 2 == 1 {

@@ -38,10 +38,10 @@ fn at_once(tally: Tally) -> Reply
 
 // The answer from both roots, whose rows are good. The first visit is made here, and halves are walked from there on.
 fn from_good_roots(
-    points_a: &[i32],
-    table_a: &[i32],
-    points_b: &[i32],
-    table_b: &[i32],
+    points_a: &[i64],
+    table_a: &[i64],
+    points_b: &[i64],
+    table_b: &[i64],
     fresh: Tally,
 ) -> Reply
     requires { ⌜ PairStands (now «points_a») (now «table_a») (now «points_b») (now «table_b»)
@@ -69,10 +69,10 @@ fn from_good_roots(
 // The answer of the walk from both roots, whose rows are checked first. Roots with their boxes apart, as most lines of
 // a register have them, need no walk.
 fn from_roots(
-    points_a: &[i32],
-    table_a: &[i32],
-    points_b: &[i32],
-    table_b: &[i32],
+    points_a: &[i64],
+    table_a: &[i64],
+    points_b: &[i64],
+    table_b: &[i64],
     allowance: u32,
 ) -> Reply
     requires { ⌜ LengthsFine (now «points_a») (now «table_a») × LengthsFine (now «points_b») (now «table_b») ⌝ }
@@ -102,10 +102,10 @@ fn from_roots(
 
 // Whether the lines share a point, by at most this many visits: refusals 1, 2, 3 and 6 of A, then of B, then the walk.
 pub fn meet(
-    points_a: &[i32],
-    table_a: &[i32],
-    points_b: &[i32],
-    table_b: &[i32],
+    points_a: &[i64],
+    table_a: &[i64],
+    points_b: &[i64],
+    table_b: &[i64],
     allowance: u32,
 ) -> Reply
     ensures { λ r. ⌜ r ≡ meetReply (now («points_a» .entry)) (now («table_a» .entry))

@@ -60,7 +60,7 @@ fn row_of_b(rows: u64) -> usize
 }
 
 // The node that a good row tells of.
-fn node_at(table: &[i32], row: usize) -> Node
+fn node_at(table: &[i64], row: usize) -> Node
     requires { ⌜ TellsNode (now table) row ⌝ }
     ensures { λ n. ⌜ n ≡ nodeIn (now (table .entry)) row ⌝ }
 {
@@ -73,7 +73,7 @@ fn node_at(table: &[i32], row: usize) -> Node
 }
 
 // The pair that good rows tell of.
-pub fn pair_at(table_a: &[i32], table_b: &[i32], rows: u64) -> Pair
+pub fn pair_at(table_a: &[i64], table_b: &[i64], rows: u64) -> Pair
     requires { ⌜ TellsNode (now «table_a») (rowA rows) × TellsNode (now «table_b») (rowB rows) ⌝ }
     ensures { λ n. ⌜ n ≡ pairIn (now («table_a» .entry)) (now («table_b» .entry)) rows ⌝ }
 {
@@ -115,7 +115,7 @@ fn test(a: Point, b: Point, c: Point, d: Point) -> u32
 }
 
 // What is done with two good rows.
-fn compare(points_a: &[i32], row_a: Row, points_b: &[i32], row_b: Row, pair: Pair) -> u32
+fn compare(points_a: &[i64], row_a: Row, points_b: &[i64], row_b: Row, pair: Pair) -> u32
     requires { ⌜ Read (now «points_a») «row_a» (pair .a) × Read (now «points_b») «row_b» (pair .b) ⌝ }
     ensures { λ s. ⌜ s ≡ compared (now («points_a» .entry)) «row_a» (now («points_b» .entry)) «row_b» pair ⌝ }
 {
@@ -137,10 +137,10 @@ fn compare(points_a: &[i32], row_a: Row, points_b: &[i32], row_b: Row, pair: Pai
 // One visit of a pair whose rows are known to be good. What it works with is gone when a half is walked from: it takes
 // no room on the stack of the walk.
 pub fn visit(
-    points_a: &&[i32],
-    table_a: &&[i32],
-    points_b: &&[i32],
-    table_b: &&[i32],
+    points_a: &&[i64],
+    table_a: &&[i64],
+    points_b: &&[i64],
+    table_b: &&[i64],
     rows: u64,
 ) -> u32
     requires { ⌜ PairStands (now (now «points_a»)) (now (now «table_a»)) (now (now «points_b»)) (now (now «table_b»))

@@ -31,7 +31,7 @@ ghost use Rattle.meet_visit.specs.Sides.{sideA, sideB};
 ghost use Rattle.meet_walk.specs.Walks.{HalvedOn, Opens, Walks, WalksOn};
 
 // Whether the row of a left half is good: it begins where its parent begins, on the sheet.
-fn left_good(points: &[i32], table: &[i32], row: usize, first: usize, last: usize) -> bool
+fn left_good(points: &[i64], table: &[i64], row: usize, first: usize, last: usize) -> bool
     requires { ⌜ Stands (now points) (now table) (nodeAt row first last) ⌝ }
     requires { ⌜ T (onSheet (point (now points) first)) ⌝ }
     ensures { λ g. ⌜ g ≡ goodAt (now (points .entry)) (now (table .entry)) (nodeAt row first last) ⌝ }
@@ -40,7 +40,7 @@ fn left_good(points: &[i32], table: &[i32], row: usize, first: usize, last: usiz
 }
 
 // Whether the row of a right half is good: it begins and ends on the sheet.
-fn right_good(points: &[i32], table: &[i32], row: usize, first: usize, last: usize) -> bool
+fn right_good(points: &[i64], table: &[i64], row: usize, first: usize, last: usize) -> bool
     requires { ⌜ Stands (now points) (now table) (nodeAt row first last) ⌝ }
     requires { ⌜ EndsOn (now points) (nodeAt row first last) ⌝ }
     ensures { λ g. ⌜ g ≡ goodAt (now (points .entry)) (now (table .entry)) (nodeAt row first last) ⌝ }
@@ -50,10 +50,10 @@ fn right_good(points: &[i32], table: &[i32], row: usize, first: usize, last: usi
 
 // The walk goes on in the halves of A's node, the left half first; a bad row of a half ends it.
 fn halve_a(
-    points_a: &&[i32],
-    table_a: &&[i32],
-    points_b: &&[i32],
-    table_b: &&[i32],
+    points_a: &&[i64],
+    table_a: &&[i64],
+    points_b: &&[i64],
+    table_b: &&[i64],
     pair: Pair,
     split: usize,
     counted: Tally,
@@ -85,10 +85,10 @@ fn halve_a(
 
 // The walk goes on in the halves of B's node, the left half first; a bad row of a half ends it.
 fn halve_b(
-    points_a: &&[i32],
-    table_a: &&[i32],
-    points_b: &&[i32],
-    table_b: &&[i32],
+    points_a: &&[i64],
+    table_a: &&[i64],
+    points_b: &&[i64],
+    table_b: &&[i64],
     pair: Pair,
     split: usize,
     counted: Tally,
@@ -120,10 +120,10 @@ fn halve_b(
 
 // The walk goes on from a pair whose visit was made and halves the node with more segments.
 pub fn open(
-    points_a: &&[i32],
-    table_a: &&[i32],
-    points_b: &&[i32],
-    table_b: &&[i32],
+    points_a: &&[i64],
+    table_a: &&[i64],
+    points_b: &&[i64],
+    table_b: &&[i64],
     rows: u64,
     counted: Tally,
 ) -> u64
@@ -147,10 +147,10 @@ pub fn open(
 // The walk from a pair on; a yes ends it. Each visit takes the tally and gives the next one back. The visit is a call
 // of its own, so that only what a pair is stays on the stack while its halves are walked.
 fn walk(
-    points_a: &&[i32],
-    table_a: &&[i32],
-    points_b: &&[i32],
-    table_b: &&[i32],
+    points_a: &&[i64],
+    table_a: &&[i64],
+    points_b: &&[i64],
+    table_b: &&[i64],
     rows: u64,
     tally: Tally,
 ) -> u64

@@ -10,7 +10,7 @@ ghost use mathlib.Core.Path.{_≡_};
 ghost use Rattle.rules.specs.Questions.{nearReply};
 
 // Whether z is within the distance of the line: refusals 1, 2, 3, 6, 7 and 8, then the walk.
-pub fn near(points: &[i32], table: &[i32], z: Point, distance: i64, allowance: u32) -> Reply
+pub fn near(points: &[i64], table: &[i64], z: Point, distance: i64, allowance: u32) -> Reply
     ensures { λ r. ⌜ r ≡ nearReply (now (points .entry)) (now (table .entry)) z distance allowance ⌝ }
 {
     let checked = line::check_lengths(Line::LineA, points, table);

@@ -3,7 +3,7 @@ use mathlib.Core.Path.{_≡_, refl, _∙_, ap}
 use mathlib.Core.Bool.{Bool, true, false, cond, _&&_}
 use mathlib.Core.List.{List}
 use Prim.Native.Nat.{ℕ}
-use lib.IntN.{ℤ, _*ℤ_}
+use lib.IntN.{ℤ, pos, _*ℤ_}
 use mir.Facts.{and-yes}
 use Rattle.integers.specs.Order.{T-true}
 use Rattle.rules.specs.declared.Line.{Line}
@@ -51,7 +51,7 @@ module _ (ps t : List ℤ) (z : Point) (n : Node) where
 
   -- ---------------- a node that begins and ends on the sheet, by what was read of its row and its points
   module _ (on : EndsOn ps n) {r : Row} (row-is : r ≡ rowAt t (n .row)) where
-    pub frame-bad : {reach : ℤ} → frameGood r (n .first) (n .last) ≡ false → Visits ps t n z reach Bad
+    pub frame-bad : {reach : ℕ} → frameGood r (n .first) (n .last) ≡ false → Visits ps t n z reach Bad
     unfolding nearVisit
     frame-bad f = record {
       does = λ l D e. frame-refused l ps t n same (isFar D) (isWithin D) on row-is f;
@@ -60,7 +60,7 @@ module _ (ps t : List ℤ) (z : Point) (n : Node) where
 
     module _ {a b : Point} (from : a ≡ startOf ps n) (to : b ≡ endOf ps n)
         (framed : frameGood r (n .first) (n .last) ≡ true) where
-      pub leaf-visit : {reach : ℤ} {s : Step} → leaf n ≡ true → ((D : ℤ) → reach ≡ D *ℤ D → s ≡ leafStep r a b z D)
+      pub leaf-visit : {reach : ℕ} {s : Step} → leaf n ≡ true → ((D : ℤ) → pos reach ≡ D *ℤ D → s ≡ leafStep r a b z D)
           → SplitsInside (n .first) (n .last) s → Visits ps t n z reach s
       unfolding nearVisit
       leaf-visit e is inside = record {
@@ -77,8 +77,8 @@ module _ (ps t : List ℤ) (z : Point) (n : Node) where
           by l true false false = refl
           by l false far near = refl
 
-      pub inner-visit : {reach : ℤ} {s : Step} → leaf n ≡ false
-          → ((D : ℤ) → reach ≡ D *ℤ D → s ≡ innerStep r (n .first) (n .last) a b z D)
+      pub inner-visit : {reach : ℕ} {s : Step} → leaf n ≡ false
+          → ((D : ℤ) → pos reach ≡ D *ℤ D → s ≡ innerStep r (n .first) (n .last) a b z D)
           → SplitsInside (n .first) (n .last) s → Visits ps t n z reach s
       unfolding nearVisit
       inner-visit e is inside = record {

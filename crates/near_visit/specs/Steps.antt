@@ -3,7 +3,7 @@ use mathlib.Core.Path.{_≡_}
 use mathlib.Core.Bool.{Bool, cond}
 use mathlib.Core.List.{List}
 use Prim.Native.Nat.{ℕ}
-use lib.IntN.{ℤ, _*ℤ_}
+use lib.IntN.{ℤ, pos, _*ℤ_}
 use Rattle.rules.specs.declared.Line.{Line}
 use Rattle.rules.specs.declared.Node.{Node}
 use Rattle.rules.specs.declared.Point.{Point}
@@ -52,10 +52,10 @@ SplitsInside first last Pass = Unit {0}
 SplitsInside first last (Halve s) = Inner first s last
 
 -- what is asked for: a node whose row and points can be read and whose ends are on the sheet, a point and a distance
-abbrev pub Asks : List ℤ → List ℤ → Node → Point → ℤ → Type 0
+abbrev pub Asks : List ℤ → List ℤ → Node → Point → ℕ → Type 0
 Asks ps t n z reach = Stands ps t n × EndsOn ps n × OnSheet z × ReachFits reach
 
 -- a visit is the written one, and halves at an inner point
-pub record Visits (ps t : List ℤ) (n : Node) (z : Point) (reach : ℤ) (s : Step) : Type 0 where
-  pub does : (l : Line) (D : ℤ) → reach ≡ D *ℤ D → stepVisit l n s ≡ nearVisit l ps t z D n
+pub record Visits (ps t : List ℤ) (n : Node) (z : Point) (reach : ℕ) (s : Step) : Type 0 where
+  pub does : (l : Line) (D : ℤ) → pos reach ≡ D *ℤ D → stepVisit l n s ≡ nearVisit l ps t z D n
   pub inside : SplitsInside (n .first) (n .last) s

@@ -15,7 +15,7 @@ use rules::Point;
 use rules::Row;
 ghost use mathlib.Core.Path.{_≡_};
 ghost use Prim.Native.Nat.{ℕ, _<_};
-ghost use lib.IntN.{ℤ, _*ℤ_};
+ghost use lib.IntN.{ℤ, pos, _*ℤ_};
 ghost use Rattle.rules.specs.Sheet.{most};
 ghost use Rattle.limits.specs.Small.{OnSheet};
 ghost use Rattle.visits.specs.Nodes.{HoldsStart};
@@ -31,9 +31,9 @@ pub enum Step {
 }
 
 // A leaf whose frame is good: its points differ, so it heads along its step.
-fn leaf_step(r: Row, a: Point, b: Point, z: Point, reach: i64) -> Step
+fn leaf_step(r: Row, a: Point, b: Point, z: Point, reach: u64) -> Step
     requires { ⌜ HoldsStart r × OnSheet a × OnSheet b × OnSheet z × ReachFits reach ⌝ }
-    ensures { λ s. ⌜ ((D : ℤ) → reach ≡ D *ℤ D → s ≡ leafStep r a b z D) ⌝ }
+    ensures { λ s. ⌜ ((D : ℤ) → pos reach ≡ D *ℤ D → s ≡ leafStep r a b z D) ⌝ }
     ensures { λ s. ⌜ ((first last : ℕ) → SplitsInside first last s) ⌝ }
 {
     if !leaf_good(r, a, b) {
@@ -49,10 +49,10 @@ fn leaf_step(r: Row, a: Point, b: Point, z: Point, reach: i64) -> Step
 }
 
 // A node of more segments whose frame is good.
-fn inner_step(r: Row, first: usize, last: usize, a: Point, b: Point, z: Point, reach: i64) -> Step
+fn inner_step(r: Row, first: usize, last: usize, a: Point, b: Point, z: Point, reach: u64) -> Step
     requires { ⌜ (first < last) × (last < most) ⌝ }
     requires { ⌜ HoldsStart r × OnSheet a × OnSheet b × OnSheet z × ReachFits reach ⌝ }
-    ensures { λ s. ⌜ ((D : ℤ) → reach ≡ D *ℤ D → s ≡ innerStep r first last a b z D) ⌝ }
+    ensures { λ s. ⌜ ((D : ℤ) → pos reach ≡ D *ℤ D → s ≡ innerStep r first last a b z D) ⌝ }
     ensures { λ s. ⌜ SplitsInside first last s ⌝ }
 {
     if !splits_inside(r, first, last) {
@@ -65,7 +65,7 @@ fn inner_step(r: Row, first: usize, last: usize, a: Point, b: Point, z: Point, r
 }
 
 // A visit of a node whose ends are known to be on the sheet.
-pub fn visit(points: &[i32], table: &[i32], node: Node, z: Point, reach: i64) -> Step
+pub fn visit(points: &[i64], table: &[i64], node: Node, z: Point, reach: u64) -> Step
     requires { ⌜ Asks (now points) (now table) node z reach ⌝ }
     ensures { λ s. ⌜ Visits (now (points .entry)) (now (table .entry)) node z reach s ⌝ }
 {

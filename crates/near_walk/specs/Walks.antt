@@ -3,7 +3,7 @@ use mathlib.Core.Path.{_≡_}
 use mathlib.Core.List.{List}
 use Prim.Native.Nat.{ℕ, _+_, _≤_}
 use lib.Dec.{T}
-use lib.IntN.{ℤ, _*ℤ_}
+use lib.IntN.{ℤ, pos, _*ℤ_}
 use Rattle.integers.specs.Range.{Abs≤}
 use Rattle.rules.specs.declared.Line.{Line}
 use Rattle.rules.specs.declared.Point.{Point}
@@ -21,9 +21,9 @@ abbrev pub AsksLine : List ℤ → List ℤ → ℤ → Type 0
 AsksLine ps t D = LengthsFine ps t × T (endsGood ps 0 (segmentsOf ps)) × Abs≤ farthest D
 
 -- r tells how the written walk ends: from a node of at most f segments on, with f levels,
-abbrev pub Walks : List ℤ → List ℤ → ℕ → ℕ → ℕ → ℤ → ℤ → ℤ → Tally → ℕ → Type 0
+abbrev pub Walks : List ℤ → List ℤ → ℕ → ℕ → ℕ → ℤ → ℤ → ℕ → Tally → ℕ → Type 0
 Walks ps t row first last x y reach tally r =
-    (l m : Line) (f : ℕ) (D : ℤ) → reach ≡ D *ℤ D → last ≤ f + first
+    (l m : Line) (f : ℕ) (D : ℤ) → pos reach ≡ D *ℤ D → last ≤ f + first
     → walkedIn tt tt l m (tally .allowance) r
     ≡ walk (nearVisit l ps t (record { x = x; y = y }) D) f (nodeAt row first last) tt tally
 

@@ -27,14 +27,14 @@ ghost use Rattle.near_walk.specs.Walks.{AsksLine, Walks, Comes};
 // The walk from a node on, left child first; a yes ends it. Each visit takes the tally and gives the next one back. A
 // split off the sheet ends its children, so every node that is visited has its ends on the sheet.
 fn walk(
-    points: &&[i32],
-    table: &&[i32],
+    points: &&[i64],
+    table: &&[i64],
     row: usize,
     first: usize,
     last: usize,
     x: i64,
     y: i64,
-    reach: i64,
+    reach: u64,
     tally: Tally,
 ) -> u64
     requires { ⌜ Asks (now (now points)) (now (now table)) (nodeAt row first last) (record { x = x; y = y }) reach ⌝ }
@@ -70,16 +70,16 @@ fn walk(
 }
 
 // NEAR of a line whose lengths and ends, and a point and a distance, are checked; the tally goes on.
-pub fn ask(points: &&[i32], table: &&[i32], z: Point, d: i64, tally: Tally) -> u64
+pub fn ask(points: &&[i64], table: &&[i64], z: Point, d: i64, tally: Tally) -> u64
     requires { ⌜ AsksLine (now (now points)) (now (now table)) d × OnSheet z ⌝ }
     ensures { λ r. ⌜ Comes (now (now (points .entry))) (now (now (table .entry))) z d tally r ⌝ }
 {
     let last = points.len() / 2 - 1;
-    walk(points, table, 0, 0, last, z.x, z.y, d * d, tally)
+    walk(points, table, 0, 0, last, z.x, z.y, (d * d) as u64, tally)
 }
 
 // The same, wherever the line begins and ends: off the sheet its root's row is bad.
-pub fn ask_any(points: &&[i32], table: &&[i32], z: Point, d: i64, tally: Tally) -> u64
+pub fn ask_any(points: &&[i64], table: &&[i64], z: Point, d: i64, tally: Tally) -> u64
     requires { ⌜ LengthsFine (now (now points)) (now (now table)) × OnSheet z × Abs≤ farthest d ⌝ }
     ensures { λ r. ⌜ Comes (now (now (points .entry))) (now (now (table .entry))) z d tally r ⌝ }
 {

@@ -1,7 +1,7 @@
 -- Digits, one after another, and the number that they write. The laws that functions cite have for premises what is
 -- known where they are cited: what an invariant or a call says of a result, what a test says. So `search` finds them.
 use mathlib.Core.Path.{_≡_, refl, sym, ap, _∙_}
-use mathlib.Core.Bool.{Bool, true, false, not, cond, _&&_, and-true, and-eq-true-iff, false≢true}
+use mathlib.Core.Bool.{Bool, true, false, not, cond, _&&_, and-eq-true-iff, false≢true}
 use mathlib.Core.List.{List, [], _∷_}
 use mathlib.Core.Option.{Option, none, some}
 use Prim.Native.Nat.{ℕ, suc, _+_, _*_, _-_, _^_, _≤_, _<_}
@@ -29,7 +29,7 @@ use mir.Facts.{toZ-ofZ}
 use Rattle.numerals.specs.declared.Number.{Number}
 use Rattle.numerals.specs.declared.Number.the-variants.{Whole, Nothing}
 use Rattle.numerals.specs.Numerals.{isDigit, allDigits, valueFrom, goodDigits, minus, when, tailOf, numeral}
-use Rattle.numerals.specs.Numerals.{inRange, onlyIf, fitsI32, fitsU32}
+use Rattle.numerals.specs.Numerals.{inRange, onlyIf, fitsU32}
 use Rattle.numerals.specs.Read.{numberRead, negated}
 
 -- a test t of b that passed
@@ -263,11 +263,6 @@ kept p (some y) z e = go (p y) refl e
     go false q k = cc
 
 -- what fits by its test fits the machine's 32 bits
-pub fits-i32 : (z : ℤ) → fitsI32 z ≡ true → SFits w32 z
-fits-i32 (pos n) e = let h = leb-true n 2147483647 e in record { sfits = omega arith }
-fits-i32 (negsuc n) e =
-    let h = leb-true n 2147483647 (sym (and-true (leb n 2147483647)) ∙ e) in record { sfits = omega arith }
-
 pub fits-u32 : (z : ℤ) → fitsU32 z ≡ true → T (nonNeg z) × Fits w32 (natAbs z)
 fits-u32 (pos n) e =
     let h = leb-true n 4294967295 (and-eq-true-iff (leb 0 n) (leb n 4294967295) .0 e .1) in

@@ -42,7 +42,7 @@ pub struct Prepared {
 }
 
 // The points of a line, out of its store.
-pub fn stored(held: Held, points: &[i32]) -> &[i32]
+pub fn stored(held: Held, points: &[i64]) -> &[i64]
     requires { ⌜ Stored held (now points) ⌝ }
     ensures { λ r. ⌜ now r ≡ storeIn held (now (points .entry)) .points ⌝ }
 {
@@ -51,7 +51,7 @@ pub fn stored(held: Held, points: &[i32]) -> &[i32]
 }
 
 // The rows of a line, out of its table, and nothing past them.
-pub fn rows<'a>(line: &[i32], table: &'a [i32]) -> &'a [i32]
+pub fn rows<'a>(line: &[i64], table: &'a [i64]) -> &'a [i64]
     requires { ⌜ Rows (now line) (now table) ⌝ }
     ensures { λ r. ⌜ now r ≡ tableOf (now (line .entry)) ⌝ }
 {
@@ -84,7 +84,7 @@ fn goes_on(readied: Readied) -> bool
 
 // Builds the table of a line from its store, unless it is built, or tells why not: 13 in place of the build, or what
 // the build refused.
-fn ready(line: Line, held: Held, points: &[i32], table: &mut [i32], place: usize) -> Readied
+fn ready(line: Line, held: Held, points: &[i64], table: &mut [i64], place: usize) -> Readied
     requires { ⌜ LentLine held (now points) (now table) ⌝ }
     ensures { λ r. ⌜ ReadiesLine line (storeIn held (now (points .entry))) place
         (now (table .entry)) r (now (table .exit)) ⌝ }
@@ -105,11 +105,11 @@ fn ready(line: Line, held: Held, points: &[i32], table: &mut [i32], place: usize
 // The tables of A and then of B; where A's is refused, B's is not built.
 fn ready_both(
     held_a: Held,
-    points_a: &[i32],
-    table_a: &mut [i32],
+    points_a: &[i64],
+    table_a: &mut [i64],
     held_b: Held,
-    points_b: &[i32],
-    table_b: &mut [i32],
+    points_b: &[i64],
+    table_b: &mut [i64],
     place: usize,
 ) -> Prepared
     requires { ⌜ LentLine «held_a» (now «points_a») (now «table_a») ⌝ }
@@ -142,11 +142,11 @@ fn ready_both(
 pub fn ready_for(
     needed: Needed,
     held_a: Held,
-    points_a: &[i32],
-    table_a: &mut [i32],
+    points_a: &[i64],
+    table_a: &mut [i64],
     held_b: Held,
-    points_b: &[i32],
-    table_b: &mut [i32],
+    points_b: &[i64],
+    table_b: &mut [i64],
     place: usize,
 ) -> Prepared
     requires { ⌜ LentLine «held_a» (now «points_a») (now «table_a») ⌝ }

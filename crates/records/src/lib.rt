@@ -35,7 +35,7 @@ fn pointed(state: State, line: Line, count: usize) -> Outcome
 }
 
 // Points before any LINE are refusal 12, and each past the 257th is refusal 13.
-fn take_point(state: State, a: &mut [i32], b: &mut [i32], x: i32, y: i32) -> Outcome
+fn take_point(state: State, a: &mut [i64], b: &mut [i64], x: i64, y: i64) -> Outcome
     requires { ⌜ (length (now a) ≡ 2 * room) × (length (now b) ≡ 2 * room) × Ready state ⌝ }
     ensures { λ r. ⌜ TakesPoint state x y (both (now (a .entry)) (now (b .entry))) r
         (both (now (a .exit)) (now (b .exit))) ⌝ }
@@ -74,10 +74,10 @@ fn with_built(state: State, built: TablesBuilt) -> State
 // What a record comes to.
 fn take_record(
     state: State,
-    a: &mut [i32],
-    b: &mut [i32],
-    table_a: &mut [i32],
-    table_b: &mut [i32],
+    a: &mut [i64],
+    b: &mut [i64],
+    table_a: &mut [i64],
+    table_b: &mut [i64],
     record: Record,
 ) -> Outcome
     requires { ⌜ Lent (now a) (now b) (now «table_a») (now «table_b») × Ready state
@@ -103,10 +103,10 @@ fn take_record(
 // A text line.
 pub fn take_text(
     state: State,
-    a: &mut [i32],
-    b: &mut [i32],
-    table_a: &mut [i32],
-    table_b: &mut [i32],
+    a: &mut [i64],
+    b: &mut [i64],
+    table_a: &mut [i64],
+    table_b: &mut [i64],
     text: &[u8],
 ) -> Outcome
     requires { ⌜ Lent (now a) (now b) (now «table_a») (now «table_b») × Bounds state

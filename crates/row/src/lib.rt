@@ -1,6 +1,5 @@
 // Rows as the machine reads them: a row out of a table, and the row rules of refusal 10. Every function says its result
 // by a definition of `rules`.
-use integers::wide;
 use limits::LIMIT;
 use limits::WIDTH;
 use limits::column;
@@ -24,15 +23,15 @@ ghost use Rattle.rules.specs.Questions.{splitIn};
 ghost use Rattle.row.specs.Parts.{frameGood, leafFits, splitFits};
 
 // Number k of row r.
-fn number_at(table: &[i32], r: usize, k: usize) -> i64
+fn number_at(table: &[i64], r: usize, k: usize) -> i64
     requires { ⌜ (k < width) × (width * r + width ≤ length (now table)) ⌝ }
     ensures { λ v. ⌜ v ≡ numberAt (now (table .entry)) r k ⌝ }
 {
-    wide(table[WIDTH * r + k])
+    table[WIDTH * r + k]
 }
 
 // Row r of a table.
-pub fn row_at(table: &[i32], r: usize) -> Row
+pub fn row_at(table: &[i64], r: usize) -> Row
     requires { ⌜ width * r + width ≤ length (now table) ⌝ }
     ensures { λ row. ⌜ row ≡ rowAt (now (table .entry)) r ⌝ }
 {
@@ -110,7 +109,7 @@ pub fn leaf_good(r: Row, a: Point, b: Point) -> bool
 }
 
 // Whether a row is good whose node is known to begin and end on the sheet.
-pub fn good_between(points: &[i32], r: Row, first: usize, last: usize) -> bool
+pub fn good_between(points: &[i64], r: Row, first: usize, last: usize) -> bool
     requires { ⌜ (first < last) × (last < most) × (2 * last + 1 < length (now points)) ⌝ }
     requires { ⌜ T (onSheet (point (now points) first)) × T (onSheet (point (now points) last)) ⌝ }
     ensures { λ g. ⌜ g ≡ good (now (points .entry)) r first last ⌝ }
@@ -125,7 +124,7 @@ pub fn good_between(points: &[i32], r: Row, first: usize, last: usize) -> bool
 }
 
 // Whether a row is good whose node is known to begin on the sheet.
-pub fn good_from(points: &[i32], r: Row, first: usize, last: usize) -> bool
+pub fn good_from(points: &[i64], r: Row, first: usize, last: usize) -> bool
     requires { ⌜ (first < last) × (last < most) × (2 * last + 1 < length (now points)) ⌝ }
     requires { ⌜ T (onSheet (point (now points) first)) ⌝ }
     ensures { λ g. ⌜ g ≡ good (now (points .entry)) r first last ⌝ }
@@ -134,7 +133,7 @@ pub fn good_from(points: &[i32], r: Row, first: usize, last: usize) -> bool
 }
 
 // Whether a row that is read at a visit is good, for the range handed down.
-pub fn row_good(points: &[i32], r: Row, first: usize, last: usize) -> bool
+pub fn row_good(points: &[i64], r: Row, first: usize, last: usize) -> bool
     requires { ⌜ (first < last) × (last < most) × (2 * last + 1 < length (now points)) ⌝ }
     ensures { λ g. ⌜ g ≡ good (now (points .entry)) r first last ⌝ }
 {
@@ -142,7 +141,7 @@ pub fn row_good(points: &[i32], r: Row, first: usize, last: usize) -> bool
 }
 
 // Whether a line begins and ends on the sheet.
-pub fn ends_on_sheet(points: &[i32]) -> bool
+pub fn ends_on_sheet(points: &[i64]) -> bool
     requires { ⌜ fewest ≤ pointsOf (now points) ⌝ }
     ensures { λ g. ⌜ g ≡ endsGood (now (points .entry)) 0 (segmentsOf (now (points .entry))) ⌝ }
 {

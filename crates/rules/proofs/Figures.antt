@@ -1,11 +1,13 @@
--- docs/RULES.md, section 8: P1 to P12 of the definitions, as one list under one theorem; and one small example
--- for each of the "slips that look right" that the figures do not reach. All by computation.
+-- docs/RULES.md, section 8: P1 to P12 of the definitions, as one list under one theorem; one small example for each of
+-- the "slips that look right" that the figures do not reach; and the limits of the sheet. All by computation.
 use mathlib.Core.Path.{_≡_, refl}
 use mathlib.Core.Bool.{true, false}
-use mathlib.Core.List.{List, [], _∷_}
+use mathlib.Core.List.{List, [], _∷_, _++_}
+use mathlib.Core.Option.{none, some}
 use Prim.Native.Nat.{ℕ}
 use lib.IntN.{ℤ, pos, negsuc}
-use Rattle.rules.specs.declared.Line.the-variants.{LineB}
+use lib.ListN.{set, replicate}
+use Rattle.rules.specs.declared.Line.the-variants.{NoLine, LineA, LineB}
 use Rattle.rules.specs.declared.Point.{Point}
 use Rattle.rules.specs.Plane.{direction}
 use Rattle.rules.specs.Sheet.{between}
@@ -14,12 +16,13 @@ use Rattle.rules.specs.Plain.{within, share, onSegment, crosses, joined,
 use Rattle.rules.specs.Plain.{plainInside, plainAgree}
 use Rattle.rules.specs.declared.Word.the-variants.{YES, NO, INSIDE, OUTSIDE, ON, UNDECIDED}
 use Rattle.rules.specs.declared.Reply.{Reply}
-use Rattle.rules.specs.Reply.{says, disagrees}
+use Rattle.rules.specs.Reply.{says, disagrees, refuses}
 use Rattle.rules.specs.Walk.{walk}
 use Rattle.rules.specs.Rows.{good}
 use Rattle.rules.specs.Questions.{shortfall, farFrom, nearVisit, nearReply, beyondCorners, apart, meetVisit}
 use Rattle.rules.specs.Questions.{meetReply, clearOf, inVisit, inReply, askAll, agreeWalk, agreeReply}
 use Rattle.rules.specs.Build.{lowest, buildRefusal, tableOf, builtTable}
+use Rattle.rules.specs.Old.{widened, widenRefusal}
 
 abbrev at : ℕ → ℕ → Point
 at x y = record { x = pos x; y = pos y }
@@ -136,3 +139,50 @@ pub builds-all-or-nothing :
 unfolding builtTable buildRefusal lowest tableOf rowsOf measured splitOf best better height least greatest direction
     between
 builds-all-or-nothing = (refl, refl)
+
+-- ---- the sheet of 125 km: its diagonal, asked from another corner; and the limits
+abbrev diagonal : List ℤ
+diagonal = negsuc 999999 ∷ negsuc 999999 ∷ pos 1000000 ∷ pos 1000000 ∷ []
+
+abbrev across : ℤ → Reply
+across D = nearReply diagonal (tableOf diagonal) (record { x = pos 1000000; y = negsuc 999999 }) D 99
+
+abbrev eastTo : ℕ → List ℤ
+eastTo x = pos 0 ∷ pos 0 ∷ pos x ∷ pos 0 ∷ []
+
+abbrev refusedAs : ℕ → Reply
+refusedAs number = refuses (record { number = number; line = NoLine; place = 0; visits = 0 })
+
+pub at-the-limits :
+    (tableOf diagonal
+    ≡ pos 0 ∷ pos 1 ∷ negsuc 0 ∷ pos 0 ∷ pos 0 ∷ pos 0 ∷ pos 8000000000000 ∷ negsuc 999999 ∷ pos 1000000
+    ∷ negsuc 999999 ∷ pos 1000000 ∷ [])
+    × (across (pos 1414213) ≡ says NO 1)
+    × (across (pos 1414214) ≡ says YES 1)
+    × (across (pos 2000000) ≡ says YES 1)
+    × (across (pos 2000001) ≡ refusedAs 7)
+    × (across (negsuc 0) ≡ refusedAs 7)
+    × (nearReply diagonal (tableOf diagonal) (at 1000001 0) (pos 0) 99 ≡ refusedAs 8)
+    × (buildRefusal (eastTo 1000000) (pos 7 ∷ ten) ≡ none)
+    × (buildRefusal (eastTo 1000001) (pos 7 ∷ ten) ≡ some (record { number = 4; line = LineA; place = 1; visits = 0 }))
+unfolding tableOf rowsOf measured splitOf best better height least greatest rowAt direction between within walk good
+    shortfall farFrom nearVisit nearReply buildRefusal lowest
+at-the-limits = (refl, refl, refl, refl, refl, refl, refl, refl, refl)
+
+-- a table of 64-bit numbers that no builder writes: L's, its root's cmin at -2^63
+abbrev unbounded : List ℤ
+unbounded = set (tableOf L) 3 (negsuc 9223372036854775807)
+
+pub any-number-in-a-row : nearReply L unbounded (record { x = pos 4; y = negsuc 8 }) (pos 1) 99 ≡ says NO 3
+unfolding tableOf rowsOf measured splitOf best better height least greatest rowAt direction between within walk good
+    shortfall farFrom nearVisit nearReply
+any-number-in-a-row = refl
+
+-- L's table, widened into 35 numbers that are all 5, and into 32
+pub widens-all-or-nothing :
+    (widened (tableOf L) (replicate 35 (pos 5)) ≡ tableOf L ++ pos 5 ∷ pos 5 ∷ [])
+    × (widened (tableOf L) (replicate 32 (pos 5)) ≡ replicate 32 (pos 5))
+    × (widenRefusal (tableOf L) (replicate 32 (pos 5))
+    ≡ some (record { number = 6; line = NoLine; place = 0; visits = 0 }))
+unfolding tableOf rowsOf measured splitOf best better height least greatest direction widened widenRefusal
+widens-all-or-nothing = (refl, refl, refl)

@@ -8,3 +8,4 @@ pub mod Walk
 pub mod Rows
 pub mod Questions
 pub mod Build
+pub mod Old

@@ -1,8 +1,8 @@
 -- docs/RULES.md, section 5: when a row that is read at a visit is good, and the checks before a walk.
 use mathlib.Core.Bool.{Bool, not, cond, _&&_, _||_}
 use mathlib.Core.List.{List, [], _∷_, _++_}
-use Prim.Native.Nat.{ℕ, zero, suc, _+_, _*_, _%_}
-use lib.Dec.{leb, ltb, eqb}
+use Prim.Native.Nat.{ℕ, _+_, _*_, _%_}
+use lib.Dec.{ltb, eqb}
 use lib.IntN.{ℤ, pos}
 use lib.ListN.{length}
 use lib.Signed.{leZ, ltZ}
@@ -66,7 +66,7 @@ tableCheck l ps t =
 abbrev pub lengthChecks : Line → List ℤ → List ℤ → List Check
 lengthChecks l ps t = pointChecks l ps ++ tableCheck l ps t ∷ []
 
--- 7 distance outside 0 to 32,767; it has no line
+-- 7 distance outside 0 to 2,000,000; it has no line
 abbrev pub distanceCheck : ℤ → Check
 distanceCheck D = record { holds = not (distanceFits D); number = 7; line = NoLine; place = 0 }
 

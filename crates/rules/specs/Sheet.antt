@@ -25,13 +25,13 @@ fewest = 2
 abbrev pub most : ℕ
 most = 4097
 
--- coordinates -16,383 to 16,383
+-- coordinates -1,000,000 to 1,000,000
 abbrev pub limit : ℕ
-limit = 16383
+limit = 1000000
 
--- distance 0 to 32,767
+-- distance 0 to 2,000,000
 abbrev pub farthest : ℕ
-farthest = 32767
+farthest = 2000000
 
 -- v lies between -m and m
 unfoldable pub between : ℕ → ℤ → Bool

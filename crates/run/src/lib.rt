@@ -1,5 +1,6 @@
 // A run of points, handed on by itself: its strip, its box and its split point, found in one pass that reads each point
 // once.
+use integers::magnitude;
 use line::c_at;
 use line::direction;
 use line::greater;
@@ -11,11 +12,9 @@ use line::t_at;
 use rules::Point;
 ghost use mathlib.Core.Path.{_≡_};
 ghost use Prim.Native.Nat.{_≤_, _<_};
-ghost use lib.IntN.{natAbs};
-ghost use Rattle.integers.specs.Range.{Abs≤};
 ghost use Rattle.rules.specs.Plane.{cAt, tAt};
 ghost use Rattle.rules.specs.Sheet.{most, segmentsOf};
-ghost use Rattle.limits.specs.Small.{OnSheet, Small, widest};
+ghost use Rattle.limits.specs.Small.{OnSheet, Small};
 ghost use Rattle.run.specs.Run.{AllOnSheet, spanOf, spanWith, topWith, endsOf, measuredWith, measureOf};
 
 // The least and the greatest of some numbers.
@@ -27,7 +26,7 @@ pub struct Span {
 // The point that a run splits at, and its absolute c.
 pub struct Top {
     pub split: usize,
-    pub height: usize,
+    pub height: u64,
 }
 
 // What is measured of a run: its strip, its box and its split point, which is counted from the run's first point.
@@ -59,21 +58,10 @@ impl Span {
     }
 }
 
-// The absolute value of c.
-fn height(c: i64) -> usize
-    requires { ⌜ Abs≤ widest c ⌝ }
-    ensures { λ r. ⌜ r ≡ natAbs c ⌝ }
-{
-    if c < 0 {
-        return (-c) as usize;
-    }
-    c as usize
-}
-
 impl Top {
     // The top, or point i, which is not below it, where that is better. Of two points, the later is nearer to the
     // middle exactly when they add up to less than last.
-    fn with(self, last: usize, i: usize, height: usize) -> Top
+    fn with(self, last: usize, i: usize, height: u64) -> Top
         requires { ⌜ (self .split ≤ i) × (i ≤ last) × (last < most) ⌝ }
         ensures { λ r. ⌜ r ≡ topWith last self i height ⌝ }
     {
@@ -125,13 +113,13 @@ impl Measured {
             t: self.t.with(t),
             x: self.x.with(p.x),
             y: self.y.with(p.y),
-            top: self.top.with(last, i, height(c)),
+            top: self.top.with(last, i, magnitude(c)),
         }
     }
 }
 
 // A run of one segment or more: its ends, and then each inner point.
-pub fn measure(run: &[i32]) -> Measured
+pub fn measure(run: &[i64]) -> Measured
     requires { ⌜ AllOnSheet (now run) × (0 < segmentsOf (now run)) × (segmentsOf (now run) < most) ⌝ }
     ensures { λ r. ⌜ r ≡ measureOf (now (run .entry)) ⌝ }
 {

@@ -40,7 +40,7 @@ pub struct Outcome {
 }
 
 // Each point past the 257th is not stored. The table of the line is not built from its points any more.
-pub fn add_point(held: Held, points: &mut [i32], x: i32, y: i32) -> Held
+pub fn add_point(held: Held, points: &mut [i64], x: i64, y: i64) -> Held
     requires { ⌜ Stored held (now points) ⌝ }
     ensures { λ r. ⌜ Adds held (now (points .entry)) x y r (now (points .exit)) ⌝ }
 {

@@ -8,4 +8,3 @@ pub mod Measured
 pub mod Table
 pub mod Halves
 pub mod Sound
-pub mod Narrow

@@ -67,8 +67,8 @@ module _ (ps t : List ℤ) where
 -- ---------------- building again
 
 -- acceptance goes by the length of the table alone
-accepted-length : {ps t u : List ℤ} → length t ≡ length u → Accepted ps t → Accepted ps u
-accepted-length e a =
+pub accepted-longer : {ps t u : List ℤ} → length t ≤ length u → Accepted ps t → Accepted ps u
+accepted-longer h a =
     let l = a .lengths in record {
       lengths = record {
         even = l .even;
@@ -82,7 +82,7 @@ accepted-length e a =
 
 -- a table built without refusal is accepted again
 pub built-accepted : (ps t : List ℤ) → buildRefusal ps t ≡ none → Accepted ps (builtTable ps t)
-built-accepted ps t e = accepted-length (sym (built-length ps t)) (accepted ps t e)
+built-accepted ps t e = accepted-longer (omega (arith, built-length ps t)) (accepted ps t e)
 
 -- and passes the checks of lengths that a question makes, as whichever line
 pub built-passes : (l : Line) (ps t : List ℤ) → buildRefusal ps t ≡ none

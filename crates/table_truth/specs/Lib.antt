@@ -2,4 +2,3 @@
 pub mod BestSplit
 pub mod Lowest
 pub mod Accepted
-pub mod RowRange

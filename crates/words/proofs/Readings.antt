@@ -14,16 +14,14 @@ use mir.Facts.{toZ-ofZ}
 use Rattle.numerals.specs.declared.Number.{Number}
 use Rattle.numerals.specs.declared.Number.the-variants as number
 use Rattle.numerals.specs.Read.{numberRead}
-use Rattle.numerals.specs.Numerals.{numeral, onlyIf, fitsI32, fitsU32}
-use Rattle.numerals.proofs.Digits.{kept, fits-i32, fits-u32}
-use Rattle.words.specs.declared.Coord.{Coord}
-use Rattle.words.specs.declared.Coord.the-variants as coord
+use Rattle.numerals.specs.Numerals.{numeral, onlyIf, fitsU32}
+use Rattle.numerals.proofs.Digits.{kept, fits-u32}
 use Rattle.words.specs.declared.Visits.{Visits}
 use Rattle.words.specs.declared.Visits.the-variants as visits
 use Rattle.words.specs.declared.Numbers.{Numbers}
 use Rattle.words.specs.declared.Numbers.the-variants.{All, Nothing}
 use Rattle.words.specs.Fields.{field}
-use Rattle.words.specs.Numbers.{numberAt, coordinateAt, allowanceAt, understood, coordRead, visitsRead}
+use Rattle.words.specs.Numbers.{numberAt, allowanceAt, understood, visitsRead}
 
 -- what is read in a field passed its test, if 0 does
 kept-at : (fs : List (List ℕ)) (k : ℕ) (fits : ℤ → Bool) (z : ℤ) → fits (pos 0) ≡ true → numberAt fs k fits ≡ some z →
@@ -34,21 +32,11 @@ kept-at fs k fits z zero = go (eqb k 0)
     go true e = cc
     go false e = kept fits (numeral (field fs k)) z e
 
--- ---- a field's number, as the machine's integer of 64 bits and of 32
+-- ---- a field's number, as the machine's
 pub no-number : {n : Number} {o : Option ℤ} → numberRead n ≡ o → n ≡ number.Nothing → none ≡ o
 no-number e h = sym (ap numberRead h) ∙ e
 
 module _ (fs : List (List ℕ)) (k : ℕ) {n : Number} (z : ℤ) where
-  module _ (e : numberRead n ≡ coordinateAt fs k) (h : n ≡ number.Whole z) (f : SFits w64 z) where
-    narrow : SFits w32 z
-    narrow = fits-i32 z (kept-at fs k fitsI32 z refl (sym e ∙ ap numberRead h))
-
-    pub coord-fits : SFits w32 (toZ w64 (ofZ w64 z))
-    coord-fits = rw (toZ-ofZ f) narrow
-
-    pub coord-is : some (toZ w32 (ofZ w32 (toZ w64 (ofZ w64 z)))) ≡ coordinateAt fs k
-    coord-is = rw (toZ-ofZ f) (ap some (toZ-ofZ narrow) ∙ sym (ap numberRead h) ∙ e)
-
   module _ (e : numberRead n ≡ allowanceAt fs k) (h : n ≡ number.Whole z) (f : SFits w64 z) where
     count : T (nonNeg z) × Fits w32 (natAbs z)
     count = fits-u32 z (kept-at fs k fitsU32 z refl (sym e ∙ ap numberRead h))
@@ -65,26 +53,26 @@ module _ (fs : List (List ℕ)) (k : ℕ) {n : Number} (z : ℤ) where
 -- ---- one field after another
 -- a field that is read leaves the record to the next, one that is not ends it
 module _ {o : Option ℤ} (go : ℤ → Numbers) {w : Numbers} where
-  pub coord-read : {r : Coord} (z : ℤ) → coordRead r ≡ o → r ≡ coord.At z → w ≡ go z → w ≡ understood o go
+  pub coord-read : {r : Number} (z : ℤ) → numberRead r ≡ o → r ≡ number.Whole z → w ≡ go z → w ≡ understood o go
   unfolding understood
-  coord-read z e h n = n ∙ sym (λ d. understood ((sym e ∙ ap coordRead h) d) go)
+  coord-read z e h n = n ∙ sym (λ d. understood ((sym e ∙ ap numberRead h) d) go)
 
   pub visits-read : {r : Visits} (n : ℕ) → visitsRead r ≡ o → r ≡ visits.AtMost n → w ≡ go (pos n) → w ≡ understood o go
   unfolding understood
   visits-read n e h m = m ∙ sym (λ d. understood ((sym e ∙ ap visitsRead h) d) go)
 
 module _ {o : Option ℤ} (go : ℤ → Numbers) where
-  pub no-coord : {r : Coord} → coordRead r ≡ o → r ≡ coord.Nothing → Nothing ≡ understood o go
+  pub no-coord : {r : Number} → numberRead r ≡ o → r ≡ number.Nothing → Nothing ≡ understood o go
   unfolding understood
-  no-coord e h = sym (λ d. understood ((sym e ∙ ap coordRead h) d) go)
+  no-coord e h = sym (λ d. understood ((sym e ∙ ap numberRead h) d) go)
 
   pub no-visits : {r : Visits} → visitsRead r ≡ o → r ≡ visits.Nothing → Nothing ≡ understood o go
   unfolding understood
   no-visits e h = sym (λ d. understood ((sym e ∙ ap visitsRead h) d) go)
 
 -- as the machine's integers they are the numbers that were read
-pub all-read : {x y d : ℤ} (a : ℕ) → SFits w32 x → SFits w32 y → SFits w32 d →
-    All (toZ w32 (ofZ w32 x)) (toZ w32 (ofZ w32 y)) (toZ w32 (ofZ w32 d)) a ≡ All x y d a
+pub all-read : {x y d : ℤ} (a : ℕ) → SFits w64 x → SFits w64 y → SFits w64 d →
+    All (toZ w64 (ofZ w64 x)) (toZ w64 (ofZ w64 y)) (toZ w64 (ofZ w64 d)) a ≡ All x y d a
 all-read a f g h = λ i. All (toZ-ofZ f i) (toZ-ofZ g i) (toZ-ofZ h i) a
 
 pub ruleset readings = (coord-read, visits-read, no-coord, no-visits, all-read, sfits-of)

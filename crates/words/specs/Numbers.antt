@@ -6,8 +6,6 @@ use Prim.Native.Nat.{ℕ}
 use lib.Dec.{eqb}
 use lib.IntN.{ℤ, pos, natAbs}
 use Rattle.numerals.specs.Numerals.{numeral, onlyIf, fitsI32, fitsU32}
-use Rattle.words.specs.declared.Coord.{Coord}
-use Rattle.words.specs.declared.Coord.the-variants as coord
 use Rattle.words.specs.declared.Visits.{Visits}
 use Rattle.words.specs.declared.Visits.the-variants as visits
 use Rattle.words.specs.declared.Places.{Places}
@@ -36,11 +34,7 @@ numbersAt fs p =
     understood (coordinateAt fs (p .distance)) λ d.
     understood (allowanceAt fs (p .allowance)) λ a. All x y d (natAbs a)
 
--- ---- a number or nothing, as the code hands it on
-abbrev pub coordRead : Coord → Option ℤ
-coordRead (coord.At z) = some z
-coordRead coord.Nothing = none
-
+-- ---- an allowance or nothing, as the code hands it on
 abbrev pub visitsRead : Visits → Option ℤ
 visitsRead (visits.AtMost n) = some (pos n)
 visitsRead visits.Nothing = none

@@ -11,35 +11,29 @@ ghost use Rattle.numerals.specs.Read.{numberRead};
 ghost use Rattle.words.specs.Fields.{fields, field, sameBytes};
 ghost use Rattle.words.specs.Records.{is, lineNamed, recordOf};
 ghost use Rattle.words.specs.Forms.{formOf, at, placesOf, madeOf};
-ghost use Rattle.words.specs.Numbers.{numberAt, coordRead, coordinateAt, visitsRead, allowanceAt, numbersAt};
+ghost use Rattle.words.specs.Numbers.{numberAt, coordinateAt, visitsRead, allowanceAt, numbersAt};
 
 // A text line, read.
 pub enum Record {
     Start(Line),
-    Pt(i32, i32),
+    Pt(i64, i64),
     Near {
-        x: i32,
-        y: i32,
-        distance: i32,
+        x: i64,
+        y: i64,
+        distance: i64,
         allowance: u32,
     },
     In {
-        x: i32,
-        y: i32,
+        x: i64,
+        y: i64,
         allowance: u32,
     },
     Meet(u32),
     Agree {
-        distance: i32,
+        distance: i64,
         allowance: u32,
     },
     NotUnderstood,
-}
-
-// A field read as a coordinate or a distance.
-enum Coord {
-    At(i32),
-    Nothing,
 }
 
 // A field read as an allowance.
@@ -69,9 +63,9 @@ struct Places {
 // The numbers of a record, 0 for each that it has not.
 enum Numbers {
     All {
-        x: i32,
-        y: i32,
-        distance: i32,
+        x: i64,
+        y: i64,
+        distance: i64,
         allowance: u32,
     },
     Nothing,
@@ -217,13 +211,11 @@ fn number(text: &[u8], k: usize, lo: i64, hi: i64) -> Number
     within(field(text, k), lo, hi)
 }
 
-fn coordinate(text: &[u8], k: usize) -> Coord
-    ensures { λ r. ⌜ coordRead r ≡ coordinateAt (fields (now (text .entry))) k ⌝ }
+// A coordinate or a distance.
+fn coordinate(text: &[u8], k: usize) -> Number
+    ensures { λ r. ⌜ numberRead r ≡ coordinateAt (fields (now (text .entry))) k ⌝ }
 {
-    let Number::Whole(z) = number(text, k, -2147483648, 2147483647) else {
-        return Coord::Nothing;
-    };
-    Coord::At(z as i32)
+    number(text, k, -2147483648, 2147483647)
 }
 
 fn allowance(text: &[u8], k: usize) -> Visits
@@ -238,13 +230,13 @@ fn allowance(text: &[u8], k: usize) -> Visits
 fn numbers_at(text: &[u8], places: Places) -> Numbers
     ensures { λ r. ⌜ r ≡ numbersAt (fields (now (text .entry))) places ⌝ }
 {
-    let Coord::At(x) = coordinate(text, places.x) else {
+    let Number::Whole(x) = coordinate(text, places.x) else {
         return Numbers::Nothing;
     };
-    let Coord::At(y) = coordinate(text, places.y) else {
+    let Number::Whole(y) = coordinate(text, places.y) else {
         return Numbers::Nothing;
     };
-    let Coord::At(distance) = coordinate(text, places.distance) else {
+    let Number::Whole(distance) = coordinate(text, places.distance) else {
         return Numbers::Nothing;
     };
     let Visits::AtMost(allowance) = allowance(text, places.allowance) else {

@@ -5,7 +5,7 @@ use kneukelboom::SHEET;
 
 pub const SEGMENTS: usize = 4_096;
 
-fn side(i: i32) -> i32 {
+fn side(i: i64) -> i64 {
     if i % 2 == 0 {
         1
     } else {
@@ -14,44 +14,45 @@ fn side(i: i32) -> i32 {
 }
 
 /// Strokes from side to side, each shorter than the one before: every split is next to the first point.
-pub fn comb(higher: i32) -> Vec<(i32, i32)> {
-    let stroke = |i: i32| (i - 2_048, side(i) * (16_000 - 3 * i) + higher);
-    (0..=SEGMENTS as i32).map(stroke).collect()
+pub fn comb(higher: i64) -> Vec<(i64, i64)> {
+    let stroke = |i: i64| (i - 2_048, side(i) * (16_000 - 3 * i) + higher);
+    (0..=SEGMENTS as i64).map(stroke).collect()
 }
 
 /// The same, ending where it begins.
-pub fn comb_ring() -> Vec<(i32, i32)> {
+pub fn comb_ring() -> Vec<(i64, i64)> {
     let mut ring = comb(0);
     ring[SEGMENTS] = ring[0];
     ring
 }
 
 /// Teeth along an arch: the splits lie next to an end, on each of its slopes.
-pub fn saw(higher: i32) -> Vec<(i32, i32)> {
-    let tooth = |i: i32| (7 * i, 3_000 * side(i) - i * i / 4_096 + higher);
+pub fn saw(higher: i64) -> Vec<(i64, i64)> {
+    let tooth = |i: i64| (7 * i, 3_000 * side(i) - i * i / 4_096 + higher);
     (-2_048..=2_048).map(tooth).collect()
 }
 
-pub fn reversed(mut points: Vec<(i32, i32)>) -> Vec<(i32, i32)> {
+pub fn reversed(mut points: Vec<(i64, i64)>) -> Vec<(i64, i64)> {
     points.reverse();
     points
 }
 
 /// x, y, x, y
-pub fn numbers(points: &[(i32, i32)]) -> Vec<i32> {
+pub fn numbers(points: &[(i64, i64)]) -> Vec<i64> {
     points.iter().flat_map(|&(x, y)| [x, y]).collect()
 }
 
 /// A ring as flat as the sheet allows: along the bottom and back.
-pub fn flat_ring(higher: i32) -> Vec<i32> {
-    let half = SEGMENTS as i32 / 2;
-    let there = (0..half).flat_map(|i| [i, higher - 16_000]);
-    let back = (0..half).rev().flat_map(|i| [i, higher - 15_999]);
-    there.chain(back).chain([0, higher - 16_000]).collect()
+pub fn flat_ring(higher: i64) -> Vec<i64> {
+    let half = SEGMENTS as i64 / 2;
+    let bottom = higher - SHEET;
+    let there = (0..half).flat_map(|i| [i, bottom]);
+    let back = (0..half).rev().flat_map(|i| [i, bottom + 1]);
+    there.chain(back).chain([0, bottom]).collect()
 }
 
 /// A table that dismisses nothing, good by every rule of refusal 10, with the given split of each node.
-pub fn table_without_end(points: usize, split: fn(usize, usize) -> usize) -> Vec<i32> {
+pub fn table_without_end(points: usize, split: fn(usize, usize) -> usize) -> Vec<i64> {
     let mut table = Vec::new();
     let mut due = vec![(0, points - 1)];
     while let Some((first, last)) = due.pop() {
@@ -60,9 +61,9 @@ pub fn table_without_end(points: usize, split: fn(usize, usize) -> usize) -> Vec
         if !is_leaf {
             due.extend([(middle, last), (first, middle)]);
         }
-        let split = if is_leaf { -1 } else { middle as i32 };
-        table.extend([first as i32, last as i32, split]);
-        table.extend([i32::MIN, i32::MAX, i32::MIN, i32::MAX]);
+        let split = if is_leaf { -1 } else { middle as i64 };
+        table.extend([first as i64, last as i64, split]);
+        table.extend([i64::MIN, i64::MAX, i64::MIN, i64::MAX]);
         table.extend([-SHEET, SHEET, -SHEET, SHEET]);
     }
     table

@@ -2,10 +2,9 @@
 use mathlib.Core.Path.{_≡_, sym, _∙_, ap, subst}
 use mathlib.Core.List.{List}
 use lib.IntN.{ℤ}
-use mir.Syntax.{w32, w64}
+use mir.Syntax.{w64}
 use mir.Val.{SFits}
 use mir.Facts.{toZ-ofZ}
-use Rattle.integers.specs.Machine.{result}
 use Rattle.rules.specs.declared.Reply.{Reply}
 use Rattle.rules.specs.Build.{tableOf}
 use Rattle.words.specs.declared.Record.{Record}
@@ -38,37 +37,33 @@ module _ (s : tie.Start) where
 
 -- ---------------- the numbers of the record are the machine's
 near-fits : (c : tie.After-known-told) → let q = c .before .«record» .given .0 in
-    SFits w32 (q .0) × SFits w32 (q .1 .0) × SFits w32 (q .1 .1 .0)
+    SFits w64 (q .0) × SFits w64 (q .1 .0) × SFits w64 (q .1 .1 .0)
 near-fits c = (search needs, search needs, search needs)
 
-in-fits : (c : tie.After-known-told2) → let q = c .before .record2 .given .0 in SFits w32 (q .0) × SFits w32 (q .1 .0)
+in-fits : (c : tie.After-known-told2) → let q = c .before .record2 .given .0 in SFits w64 (q .0) × SFits w64 (q .1 .0)
 in-fits c = (search needs, search needs)
 
-agree-fits : (c : tie.After-known-told4) → SFits w32 (c .before .record4 .given .0 .0)
+agree-fits : (c : tie.After-known-told4) → SFits w64 (c .before .record4 .given .0 .0)
 agree-fits c = search needs
 
 -- ---------------- the replies
 near-returns : tie.Need-returns
 near-returns c =
-    let w = c .before in
-    let t = w .before .before in
+    let t = c .before in
     let k = t .before in
     let s = k .before .before .before in
     let q = k .before .«record» .given in
     let fits = near-fits k in
-    let point = w .before .point .ensures ∙ (λ i. record { x = toZ-ofZ (fits .0) i; y = toZ-ofZ (fits .1) i }) in
-    let distance = result w64 (w .wide .ok) (w .wide .ensures ∙ toZ-ofZ (fits .2)) in
-    rw (t .rows .ensures, point, distance, came s (q .1)) at (c .near .ensures)
+    rw (t .rows .ensures, toZ-ofZ (fits .0), toZ-ofZ (fits .1), toZ-ofZ (fits .2), came s (q .1)) at (c .near .ensures)
 
 in-returns : tie.Need-returns-2
 in-returns c =
-    let t = c .before .before in
+    let t = c .before in
     let k = t .before in
     let s = k .before .before .before in
     let q = k .before .record2 .given in
     let fits = in-fits k in
-    let point = c .before .point2 .ensures ∙ (λ i. record { x = toZ-ofZ (fits .0) i; y = toZ-ofZ (fits .1) i }) in
-    rw (t .rows2 .ensures, point, came s (q .1)) at (c .inside .ensures)
+    rw (t .rows2 .ensures, toZ-ofZ (fits .0), toZ-ofZ (fits .1), came s (q .1)) at (c .inside .ensures)
 
 meet-returns : tie.Need-returns-3
 meet-returns c =
@@ -80,14 +75,12 @@ meet-returns c =
 
 agree-returns : tie.Need-returns-4
 agree-returns c =
-    let w = c .before in
-    let t = w .before .before in
+    let t = c .before .before in
     let k = t .before in
     let s = k .before .before .before in
     let q = k .before .record4 .given in
-    let tb = w .before .rows6 .ensures in
-    let distance = result w64 (w .wide2 .ok) (w .wide2 .ensures ∙ toZ-ofZ (agree-fits k)) in
-    rw (t .rows5 .ensures, tb, distance, came s (q .1)) at (c .agree .ensures)
+    let tb = c .before .rows6 .ensures in
+    rw (t .rows5 .ensures, tb, toZ-ofZ (agree-fits k), came s (q .1)) at (c .agree .ensures)
 
 other-returns : tie.Need-returns-5
 other-returns c =
@@ -100,13 +93,11 @@ other-returns c =
 pub ask-spec : {M : Type 1} → statement M
 ask-spec =
     tie.close (tie.spec
-    (search needs) (λ c κs. has-rows (c .before .before .before) (c .before .«record» .given .1))
-    (search needs) (search needs) (search needs)
-    (search needs) (λ c κs. has-rows (c .before .before .before) (c .before .record2 .given .1))
-    (search needs) (search needs)
+    (search needs) (λ c κs. has-rows (c .before .before .before) (c .before .«record» .given .1)) (search needs)
+    (search needs) (λ c κs. has-rows (c .before .before .before) (c .before .record2 .given .1)) (search needs)
     (search needs) (λ c κs. has-rows (c .before .before .before) (c .before .record3 .given .1) .0)
     (λ c κs. let k = c .before in has-rows (k .before .before .before) (k .before .record3 .given .1) .1) (search needs)
     (search needs) (λ c κs. has-rows (c .before .before .before) (c .before .record4 .given .1) .0)
     (λ c κs. let k = c .before in has-rows (k .before .before .before) (k .before .record4 .given .1) .1)
-    (search needs) (search needs) (search needs) near-returns in-returns meet-returns agree-returns
+    (search needs) (search needs) near-returns in-returns meet-returns agree-returns
     other-returns)

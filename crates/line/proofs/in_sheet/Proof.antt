@@ -1,6 +1,5 @@
 -- `in_sheet` is the two comparisons of the definition.
-use mathlib.Core.Path.{_≡_}
-use mathlib.Core.Bool.{true, false}
+use mathlib.Core.Bool.{_&&_}
 use lib.IntN.{pos, negℤ}
 use lib.Signed.{leZ}
 use mir.Syntax.{w64}
@@ -13,14 +12,7 @@ use Rattle.line.proofs.in_sheet.Tie as tie
 returns : tie.Need-returns
 unfolding between
 returns c =
-    let e = toZ-ofZ {w = w64} (c .before .fits .v) in
-    let h : leZ (negℤ (pos limit)) (c .before .args .v) ≡ true = simp e at (c .if1 .taken) in simp (e, h)
-
-returns-2 : tie.Need-returns-2
-unfolding between
-returns-2 c =
-    let e = toZ-ofZ {w = w64} (c .before .fits .v) in
-    let h : leZ (negℤ (pos limit)) (c .before .args .v) ≡ false = simp e at (c .if1 .left) in simp (e, h)
+    let e = toZ-ofZ {w = w64} (c .fits .v) in λ d. leZ (negℤ (pos limit)) (e d) && leZ (e d) (pos limit)
 
 pub in-sheet-spec : {M : Type 1} → statement M
-in-sheet-spec = tie.close (tie.spec (search needs) returns returns-2)
+in-sheet-spec = tie.close (tie.spec (search needs) returns)

@@ -3,10 +3,9 @@ use mathlib.Core.Path.{_≡_, sym, _∙_, ap, subst}
 use mathlib.Core.Bool.{Bool, true}
 use Prim.Native.Nat.{ℕ}
 use borrow.Author.Tests.{not-true, not-false}
-use lib.IntN.{ℤ, _*ℤ_}
+use lib.IntN.{ℤ, pos, _*ℤ_}
 use Rattle.rules.specs.Plane.{direction}
 use Rattle.rules.specs.Questions.{splitIn, farFrom}
-use Rattle.line.proofs.Stored.{stored}
 use Rattle.visits.specs.Nodes.{Inner}
 use Rattle.row.specs.Parts.{splitFits}
 use Rattle.row.proofs.OneVisit.{split-between, split-above}
@@ -35,12 +34,11 @@ was-good c = sym (c .before .splits-inside .ensures) ∙ not-false _ (c .if1 .le
 -- the rule of a split holds: whether the strip is far decides
 decided : (c : tie.After-far-from) {far : Bool} → c .far-from .result ≡ far
     → let a = start (c .before) .args in
-    (D : ℤ) → a .reach ≡ D *ℤ D
+    (D : ℤ) → pos (a .reach) ≡ D *ℤ D
     → innerBy (splitIn (a .r)) true far ≡ innerStep (a .r) (a .first) (a .last) (a .a) (a .b) (a .z) D
 decided c far D e =
     let k = c .before in
-    let said = c .far-from .ensures D (stored (start k .pre .1 .4) tt ∙ e) in
-    rw (was-good k, ← said, far)
+    let said = c .far-from .ensures D e in rw (was-good k, ← said, far)
 
 split-of-requires : tie.Need-split-of-requires
 split-of-requires c κs =

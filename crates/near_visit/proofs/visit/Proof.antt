@@ -3,10 +3,7 @@ use mathlib.Core.Path.{_≡_, sym, _∙_}
 use mathlib.Core.Bool.{true}
 use native.Mathlib.Omega.{arith}
 use borrow.Author.Tests.{not-true, not-false, le-leb, lt-leb}
-use mir.Syntax.{w64}
-use mir.Val.{toZ, ofZ}
 use Rattle.limits.specs.Small.{OnSheet}
-use Rattle.line.proofs.Stored.{stored, stored-abs}
 use Rattle.visits.specs.Nodes.{HoldsStart}
 use Rattle.reach.specs.Bounds.{ReachFits}
 use Rattle.row.specs.Parts.{frameGood}
@@ -41,11 +38,11 @@ module _ (c : tie.Else1) where
 
   asked : HoldsStart (row .row-at .result) × OnSheet (read (c .before) .point-at .result)
       × OnSheet (c .before .before .point-at2 .result) × OnSheet (s .args .z)
-      × ReachFits (toZ w64 (ofZ w64 (s .args .reach)))
+      × ReachFits (s .args .reach)
   asked =
       let n = s .args .node in
       let on = points-on (s .pre .1) (read (c .before) .point-at .ensures) (c .before .before .point-at2 .ensures) in
-      (holds-start _ (n .first) (n .last) framed, on .0, on .1, s .pre .2, stored-abs (s .pre .3) tt)
+      (holds-start _ (n .first) (n .last) framed, on .0, on .1, s .pre .2, s .pre .3)
 
 inner-step-requires : tie.Need-inner-step-requires
 inner-step-requires c κs =
@@ -60,8 +57,7 @@ returns-2 c =
     leaf-visit (a .points .now) (a .table .now) (a .z) (a .node) (o .pre .1) (row k .row-at .ensures)
     (read (k .before) .point-at .ensures) (k .before .before .point-at2 .ensures) (framed k)
     (le-leb _ _ (c .before .if2 .taken))
-    (λ D e. c .leaf-step .ensures .0 D (stored (o .pre .3) tt ∙ e))
-    (c .leaf-step .ensures .1 (a .node .first) (a .node .last))
+    (c .leaf-step .ensures .0) (c .leaf-step .ensures .1 (a .node .first) (a .node .last))
 
 returns-3 : tie.Need-returns-3
 returns-3 c =
@@ -71,8 +67,7 @@ returns-3 c =
     inner-visit (a .points .now) (a .table .now) (a .z) (a .node) (o .pre .1) (row k .row-at .ensures)
     (read (k .before) .point-at .ensures) (k .before .before .point-at2 .ensures) (framed k)
     (lt-leb _ _ (c .before .if2 .left))
-    (λ D e. c .inner-step .ensures .0 D (stored (o .pre .3) tt ∙ e))
-    (c .inner-step .ensures .1)
+    (c .inner-step .ensures .0) (c .inner-step .ensures .1)
 
 pub visit-spec : {M : Type 1} → statement M
 visit-spec =

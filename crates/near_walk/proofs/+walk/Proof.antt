@@ -7,7 +7,7 @@ use Prim.Native.Nat.{ℕ, pred, _-_, _<_, _+_, _≤_}
 use native.Mathlib.Omega.{arith}
 use borrow.Author.Tests.{not-true, not-false}
 use lib.Dec.{T}
-use lib.IntN.{ℤ, _*ℤ_}
+use lib.IntN.{ℤ, pos, _*ℤ_}
 use Rattle.integers.specs.Order.{T-true}
 use Rattle.rules.specs.declared.Line.{Line}
 use Rattle.rules.specs.declared.Node.{Node}
@@ -17,7 +17,7 @@ use Rattle.rules.specs.declared.Next.the-variants.{Left, Spent}
 use Rattle.rules.specs.Sheet.{point, onSheet}
 use Rattle.rules.specs.Walk.{next, Visit, halve}
 use Rattle.rules.specs.Questions.{Nothing, leftOf, rightOf, nearVisit}
-use Rattle.line.proofs.Stored.{stored, stored-abs, readBack, point-stored, stored-on}
+use Rattle.line.proofs.Stored.{readBack, point-stored, stored-on}
 use Rattle.ending.proofs.OneLevel.{Level, uncounted, says, below, none-left, yes-here, over-here, bad-here}
 use Rattle.ending.proofs.OneLevel.{left-stops, bad-left, right-goes}
 use Rattle.visits.specs.Nodes.{Inner}
@@ -151,11 +151,11 @@ module _ (t : ℕ) where
   made : (c : Seen) → next (origin c .args .tally) ≡ Left (counted c)
   made c = sym (begun (unspent c) .visit .ensures) ∙ unspent c .before .counted .given .1
 
-  did : (c : Seen) (l : Line) (D : ℤ) → origin c .args .reach ≡ D *ℤ D → {v : Step} → c .visit2 .result ≡ v
+  did : (c : Seen) (l : Line) (D : ℤ) → pos (origin c .args .reach) ≡ D *ℤ D → {v : Step} → c .visit2 .result ≡ v
       → stepVisit l (node (origin c)) v ≡ does (origin c) l D (node (origin c))
   did c l D squared e =
       let s = origin c in
-      rw (e, same s) at (c .visit2 .ensures .does l D (stored (s .pre .1 .3) tt ∙ squared))
+      rw (e, same s) at (c .visit2 .ensures .does l D squared)
 
   -- ---------------- the node is halved at an inner point, so both halves stand where it does
   abbrev split : Opened → ℕ
@@ -167,7 +167,7 @@ module _ (t : ℕ) where
   abbrev right : Opened → Node
   right c = rightOf (node (start c)) (split c)
 
-  halves : (c : Opened) (l : Line) (D : ℤ) → start c .args .reach ≡ D *ℤ D
+  halves : (c : Opened) (l : Line) (D : ℤ) → pos (start c .args .reach) ≡ D *ℤ D
       → halve (left c) (right c) ≡ does (start c) l D (node (start c))
   halves c l D squared = did (seen c) l D squared (c .before .split .given .1)
 
@@ -187,7 +187,7 @@ module _ (t : ℕ) where
   split-on c = T-true (sym (c .before .on-sheet-at .ensures) ∙ not-false _ (c .if1 .left))
 
   -- what the left half comes to
-  left-comes : (c : LeftWalked) (l m : Line) (f : ℕ) (D : ℤ) → start (halved c) .args .reach ≡ D *ℤ D
+  left-comes : (c : LeftWalked) (l m : Line) (f : ℕ) (D : ℤ) → pos (start (halved c) .args .reach) ≡ D *ℤ D
       → (enough : start (halved c) .args .last ≤ f + start (halved c) .args .first)
       → let v = level (start (halved c)) l m f D enough in
       says v (counted (seen (halved c))) (c .walk .result) ≡ below v (left (halved c)) tt (counted (seen (halved c)))
@@ -195,7 +195,7 @@ module _ (t : ℕ) where
       let o = halved c in
       let s = start o in
       let i = inside o in
-      rw (same s) at (c .walk .ensures l m (pred f) D (stored (s .pre .1 .3) tt ∙ squared) (omega arith))
+      rw (same s) at (c .walk .ensures l m (pred f) D squared (omega arith))
 
   -- ---------------- the needs that are not trivial, in the order of the code
   returns : walk-lts.Need-returns (claims t) (walk-at t) walk.Post
@@ -220,7 +220,7 @@ module _ (t : ℕ) where
       let o = opened (c .before) in
       let i = inside o in
       let p = start o .pre in
-      (omega (arith, p .0), (left-in o, left-ends (p .1 .1) (split-on c), stored-on (p .1 .2), stored-abs (p .1 .3) tt))
+      (omega (arith, p .0), (left-in o, left-ends (p .1 .1) (split-on c), stored-on (p .1 .2), p .1 .3))
 
   returns-3 : walk-lts.Need-returns-3 (claims t) (walk-at t) walk.Post
   returns-3 c l m f D squared enough =
@@ -237,7 +237,7 @@ module _ (t : ℕ) where
       let i = inside o in
       let p = start o .pre in (
         omega (arith, p .0),
-        (right-in o, right-ends (p .1 .1) (split-on (w .before)), stored-on (p .1 .2), stored-abs (p .1 .3) tt),
+        (right-in o, right-ends (p .1 .1) (split-on (w .before)), stored-on (p .1 .2), p .1 .3),
       )
 
   returns-4 : walk-lts.Need-returns-4 (claims t) (walk-at t) walk.Post
@@ -271,7 +271,7 @@ module _ (t : ℕ) where
       (c .before .tally-in .ensures)
       (c .walk2 .result)
       refl
-      (rw (same s) at (c .walk2 .ensures l m (pred f) D (stored (s .pre .1 .3) tt ∙ squared) (omega arith)))
+      (rw (same s) at (c .walk2 .ensures l m (pred f) D squared (omega arith)))
 
 pub +walk-spec : {M : Type 1} → statement M
 +walk-spec =
@@ -279,7 +279,7 @@ pub +walk-spec : {M : Type 1} → statement M
     walk-lts.spec (claims t) (walk-at t) walk.Post (λ c κs. search needs) (λ c. search needs) (λ c. search needs)
     (λ c κs. search needs) (returns t)
     (λ c κs. let p = begun t (c .before .before) .before .pre .1 in
-    (p .0, p .1, stored-on (p .2), stored-abs (p .3) tt))
+    (p .0, p .1, stored-on (p .2), p .3))
     (λ c. search needs) (λ c κs. row-small (origin t (c .before .before) .pre .1 .0)) (λ c. search needs)
     (λ c κs. search needs) (λ c. search needs) (λ c κs. search needs) (λ c. search needs)
     (λ c. let small = row-small (left-in t c) in omega arith)

@@ -1,6 +1,6 @@
 -- `take_point` goes by the line that points go to: a point behind its points, or a refusal.
 use mathlib.Core.Path.{refl, sym, _∙_, ap}
-use mir.Syntax.{w32}
+use mir.Syntax.{w64}
 use mir.Facts.{toZ-ofZ}
 use Rattle.rules.specs.declared.Line.{Line}
 use Rattle.desk.specs.Desk.{saying, takePoint}
@@ -41,7 +41,7 @@ returns-2 c =
     point-on-a k (s .args .a .now) (s .args .b .now) (s .args .x) (s .args .y) (p .add-point .result)
     (told .enum-told2 .given .1)
     (record { whole = s .pre .0; counted = k .bounds .count-a })
-    (simp (toZ-ofZ {w = w32} (s .fits .x), toZ-ofZ {w = w32} (s .fits .y)) at (p .add-point .ensures))
+    (simp (toZ-ofZ {w = w64} (s .fits .x), toZ-ofZ {w = w64} (s .fits .y)) at (p .add-point .ensures))
     (c .pointed .ensures)
 
 returns-3 : tie.Need-returns-3
@@ -53,7 +53,7 @@ returns-3 c =
     point-on-b k (s .args .a .now) (s .args .b .now) (s .args .x) (s .args .y) (p .add-point2 .result)
     (told .enum-told3 .given .1)
     (record { whole = s .pre .1; counted = k .bounds .count-b })
-    (simp (toZ-ofZ {w = w32} (s .fits .x), toZ-ofZ {w = w32} (s .fits .y)) at (p .add-point2 .ensures))
+    (simp (toZ-ofZ {w = w64} (s .fits .x), toZ-ofZ {w = w64} (s .fits .y)) at (p .add-point2 .ensures))
     (c .pointed2 .ensures)
 
 pub take-point-spec : {M : Type 1} → statement M

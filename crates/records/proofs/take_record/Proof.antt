@@ -1,7 +1,7 @@
 -- `take_record`: LINE and PT change what is stored, and any other record is answered.
 use mathlib.Core.Path.{_≡_, refl, sym, _∙_, ap, subst⁻¹}
 use Prim.Native.Nat.{_<_}
-use mir.Syntax.{w32}
+use mir.Syntax.{w64}
 use mir.Val.{SFits}
 use mir.Facts.{toZ-ofZ}
 use Rattle.words.specs.declared.Record.{Record}
@@ -44,10 +44,10 @@ returns c =
     )
 
 -- ---------------- PT: its numbers, read back
-point-x : (c : tie.After-known-told2) → SFits w32 (c .before .record2 .given .0 .0)
+point-x : (c : tie.After-known-told2) → SFits w64 (c .before .record2 .given .0 .0)
 point-x c = search needs
 
-point-y : (c : tie.After-known-told2) → SFits w32 (c .before .record2 .given .0 .1 .0)
+point-y : (c : tie.After-known-told2) → SFits w64 (c .before .record2 .given .0 .1 .0)
 point-y c = search needs
 
 returns-2 : tie.Need-returns-2

@@ -2,7 +2,7 @@
 use native.Mathlib.Omega.{arith}
 use lib.ListN.{length-set}
 use mathlib.Core.Path.{_≡_}
-use mir.Syntax.{w32}
+use mir.Syntax.{w64}
 use mir.Val.{toZ, ofZ}
 use Rattle.store.proofs.Stores.{point-stored, point-past}
 use borrow.Author.Needs.{needs}
@@ -11,7 +11,7 @@ use Rattle.store.proofs.add_point.Tie as tie
 
 -- the point is read back as it came
 came : (s : tie.Start) →
-    (toZ w32 (ofZ w32 (s .args .x)) ≡ s .args .x) × (toZ w32 (ofZ w32 (s .args .y)) ≡ s .args .y)
+    (toZ w64 (ofZ w64 (s .args .x)) ≡ s .args .x) × (toZ w64 (ofZ w64 (s .args .y)) ≡ s .args .y)
 came s = (search needs, search needs)
 
 returns : tie.Need-returns

@@ -1,4 +1,4 @@
--- `put_numbers`: each number, which fits, is stored in its place at the front.
+-- `put_numbers`: each number is stored in its place at the front.
 use mathlib.Core.Path.{_∙_}
 use mathlib.Core.List.{_++_}
 use native.Mathlib.Omega.{arith}
@@ -6,7 +6,8 @@ use lib.ListN.{length-set, drop}
 use lib.Seq.{sets-eq}
 use Rattle.rules.specs.Tree.{width}
 use Rattle.build.specs.Rows.{inOrder}
-use Rattle.build.proofs.Numbers.{narrows, narrows-same, wide-fits}
+use Rattle.build.proofs.Numbers.{AllFit, stored, stored-same}
+use borrow.Author.Needs.{needs}
 use Rattle.build.proofs.rows.put_numbers.Statement.{statement}
 use Rattle.build.proofs.rows.put_numbers.Tie as tie
 
@@ -16,20 +17,13 @@ returns c =
     let t = a .table .now in
     let row = inOrder (a .first) (a .last) (a .split) (a .cmin) (a .cmax) (a .tmin) (a .tmax) (a .xmin) (a .xmax)
     (a .ymin) (a .ymax) in
-    sets-eq (narrows row) t 0 (c .pre .0) ∙ (λ d. narrows-same row (c .pre .1) d ++ drop width t)
+    let fit : AllFit row = search needs in
+    sets-eq (stored row) t 0 (c .pre) ∙ (λ d. stored-same row fit d ++ drop width t)
 
 pub put-numbers-spec : {M : Type 1} → statement M
 put-numbers-spec =
     tie.close (tie.spec
-    (λ c. search wide-fits) (λ c. omega arith)
-    (λ c. search wide-fits) (λ c. simp length-set (omega arith))
-    (λ c. search wide-fits) (λ c. simp length-set (omega arith))
-    (λ c. search wide-fits) (λ c. simp length-set (omega arith))
-    (λ c. search wide-fits) (λ c. simp length-set (omega arith))
-    (λ c. search wide-fits) (λ c. simp length-set (omega arith))
-    (λ c. search wide-fits) (λ c. simp length-set (omega arith))
-    (λ c. search wide-fits) (λ c. simp length-set (omega arith))
-    (λ c. search wide-fits) (λ c. simp length-set (omega arith))
-    (λ c. search wide-fits) (λ c. simp length-set (omega arith))
-    (λ c. search wide-fits) (λ c. simp length-set (omega arith))
-    (λ c. simp length-set) returns)
+    (λ c. omega arith) (λ c. simp length-set (omega arith)) (λ c. simp length-set (omega arith))
+    (λ c. simp length-set (omega arith)) (λ c. simp length-set (omega arith)) (λ c. simp length-set (omega arith))
+    (λ c. simp length-set (omega arith)) (λ c. simp length-set (omega arith)) (λ c. simp length-set (omega arith))
+    (λ c. simp length-set (omega arith)) (λ c. simp length-set (omega arith)) (λ c. simp length-set) returns)

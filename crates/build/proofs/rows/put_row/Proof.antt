@@ -1,5 +1,5 @@
 -- `put_row`: what is measured of the part is the row and the split of the node.
-use mathlib.Core.Path.{_≡_, sym, ap, subst, _∙_}
+use mathlib.Core.Path.{_≡_, ap, _∙_}
 use mathlib.Core.List.{List}
 use Prim.Native.Nat.{ℕ, _+_, _<_}
 use native.Mathlib.Omega.{arith}
@@ -7,11 +7,10 @@ use lib.IntN.{ℤ}
 use Rattle.rules.specs.declared.Row.{Row}
 use Rattle.rules.specs.Sheet.{most}
 use Rattle.rules.specs.Tree.{numbers, splitOf}
-use Rattle.table_truth.specs.RowRange.{AllFit}
 use Rattle.run.specs.declared.Measured.{Measured}
 use Rattle.build.specs.Rows.{splitNumber, nodeRow}
-use Rattle.build.proofs.Numbers.{wides-same, wides-written}
-use Rattle.build.proofs.Node.{rowOf, run-segments, run-on, run-row, run-split, split-up-to, row-fits}
+use Rattle.build.proofs.Numbers.{AllFit, stored-written}
+use Rattle.build.proofs.Node.{rowOf, run-segments, run-on, run-row, run-split, split-up-to}
 use borrow.Author.Needs.{needs}
 use Rattle.build.proofs.rows.put_row.Statement.{statement}
 use Rattle.build.proofs.rows.put_row.Tie as tie
@@ -65,11 +64,7 @@ module _ (c : tie.After-split-number) where
       ∙ run-row (points m) (first m) (last m) (p .0) (p .2) (splitNumber (first m) (last m) _)
 
   fits : AllFit (numbers row)
-  fits =
-      let m = measured c in
-      let p = start m .pre in
-      subst (λ (r : Row). AllFit (numbers r)) (sym written)
-      (row-fits (points m) (first m) (last m) (p .0) (p .2) (p .3) (p .1))
+  fits = search needs
 
 measure-requires : tie.Need-measure-requires
 measure-requires c κs =
@@ -79,15 +74,13 @@ measure-requires c κs =
     (run-on (a .points .now) (a .first) (a .last) (p .0) (p .2) (p .3), omega arith, omega arith)
 
 put-numbers-requires : tie.Need-put-numbers-requires
-put-numbers-requires c κs =
-    let k = told (strip-read c) in
-    (start (measured k) .pre .4, subst AllFit (sym (wides-same (numbers (row k)) (fits k))) (fits k))
+put-numbers-requires c κs = let k = told (strip-read c) in start (measured k) .pre .4
 
 returns : tie.Need-returns
 returns c =
     let k = told (strip-read (c .before .before)) in
     let rows = ap numbers (written k) in
-    (found (measured k), wides-written (numbers (row k)) _ (fits k) rows (c .before .put-numbers .ensures))
+    (found (measured k), stored-written (numbers (row k)) _ (fits k) rows (c .before .put-numbers .ensures))
 
 pub put-row-spec : {M : Type 1} → statement M
 put-row-spec =

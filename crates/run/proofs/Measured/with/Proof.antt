@@ -2,7 +2,7 @@
 use mathlib.Core.Path.{sym, _∙_}
 use lib.IntN.{natAbs}
 use mir.Syntax.{w64}
-use Rattle.integers.specs.Range.{abs-at}
+use Rattle.integers.specs.Range.{abs-at, abs-weaken}
 use Rattle.integers.specs.Machine.{result}
 use Rattle.limits.proofs.Sizes.{c-wide}
 use Rattle.line.proofs.Stored.{point-stored}
@@ -21,11 +21,11 @@ spanned c = stripped c .before
 abbrev beside : tie.After-with4 → tie.After-c-at
 beside c = spanned c .before .before
 
-height-requires : tie.Need-height-requires
-height-requires c κs =
+magnitude-requires : tie.Need-magnitude-requires
+magnitude-requires c κs =
     let k = beside c in
     let h = k .before .pre in
-    abs-at (sym (result w64 (k .c-at .ok) (k .c-at .ensures))) (c-wide (h .0) (h .1) (h .2))
+    abs-at (sym (result w64 (k .c-at .ok) (k .c-at .ensures))) (abs-weaken (c-wide (h .0) (h .1) (h .2)) tt)
 
 returns : tie.Need-returns
 returns c =
@@ -40,12 +40,12 @@ returns c =
     let f = stripped y-read .with2 .ensures ∙ (λ d. spanWith (a .self .t) (t-at d)) in
     let x = y-read .before .before .with3 .ensures ∙ (λ d. spanWith (a .self .x) (p d .x)) in
     let y = y-read .with4 .ensures ∙ (λ d. spanWith (a .self .y) (p d .y)) in
-    let tall = c .before .height .ensures ∙ (λ d. natAbs (c-at d)) in
+    let tall = c .before .magnitude .ensures ∙ (λ d. natAbs (c-at d)) in
     let top = c .with5 .ensures ∙ (λ d. topWith (a .last) (a .self .top) (a .i) (tall d)) in
     λ d. record { c = e d; t = f d; x = x d; y = y d; top = top d }
 
 pub with-spec : {M : Type 1} → statement M
 with-spec =
     tie.close (tie.spec
-    (search needs) (search needs) (search needs) (search needs) (search needs) (search needs) height-requires
+    (search needs) (search needs) (search needs) (search needs) (search needs) (search needs) magnitude-requires
     (search needs) returns)

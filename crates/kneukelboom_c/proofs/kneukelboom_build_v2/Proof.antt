@@ -1,0 +1,13 @@
+-- What is lent stands as `build` leaves it, and its answer is told in numbers.
+use mathlib.Core.Path.{_∙_, ap}
+use Rattle.kneukelboom_c.specs.Codes.{codedBuild}
+use borrow.Author.Needs.{needs}
+use Rattle.kneukelboom_c.proofs.kneukelboom_build_v2.Statement.{statement}
+use Rattle.kneukelboom_c.proofs.kneukelboom_build_v2.Tie as tie
+
+returns : tie.Need-returns
+returns c =
+    let build = c .before .before .build in (c .coded-built .ensures ∙ ap codedBuild (build .ensures .0), build .ensures .1)
+
+pub kneukelboom-build-v2-spec : {M : Type 1} → statement M
+kneukelboom-build-v2-spec = tie.close (tie.spec (search needs) (search needs) (search needs) returns)

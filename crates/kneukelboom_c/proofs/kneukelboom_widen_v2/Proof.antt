@@ -1,0 +1,13 @@
+-- What is lent stands as `widen` leaves it, and its answer is told in numbers.
+use mathlib.Core.Path.{_∙_, ap}
+use Rattle.kneukelboom_c.specs.Codes.{codedBuild}
+use borrow.Author.Needs.{needs}
+use Rattle.kneukelboom_c.proofs.kneukelboom_widen_v2.Statement.{statement}
+use Rattle.kneukelboom_c.proofs.kneukelboom_widen_v2.Tie as tie
+
+returns : tie.Need-returns
+returns c =
+    let widen = c .before .before .widen in (c .coded-built .ensures ∙ ap codedBuild (widen .ensures .0), widen .ensures .1)
+
+pub kneukelboom-widen-v2-spec : {M : Type 1} → statement M
+kneukelboom-widen-v2-spec = tie.close (tie.spec (search needs) (search needs) (search needs) returns)

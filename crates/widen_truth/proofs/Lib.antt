@@ -1,0 +1,3 @@
+-- Theorems about tables of 32-bit numbers.
+pub mod Narrow
+pub mod Widened

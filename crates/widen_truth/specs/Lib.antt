@@ -1,0 +1,2 @@
+-- What the theorems about old tables say.
+pub mod RowRange
