@@ -16,27 +16,24 @@ use Rattle.demands.specs.Answers.{Answers, nearPlain, meetPlain, inPlain
 use Rattle.demands.proofs.Built.{near-built, in-built, meet-built, agree-built}
 
 module _ (ps t new : List ℤ) (taken : oldRefusal ps t ≡ none) (room : widenRefusal t new ≡ none) where
-  -- the old table in 64 bits, the build that writes it, and that it is not refused
+  -- the old table in 64 bits
   abbrev table : List ℤ
   table = widened (oldTable ps t) new
 
-  built : buildRefusal ps (widened t new) ≡ none
-  built = widened-built ps t new taken room .0
-
-  same : builtTable ps (widened t new) ≡ table
-  same = widened-built ps t new taken room .1
+  -- what holds of every built table of the line holds of it
+  as-built : (Q : List ℤ → Type 0) → ((u : List ℤ) → buildRefusal ps u ≡ none → Q (builtTable ps u)) → Q table
+  as-built Q f = let w = widened-built ps t new taken room in subst Q (w .1) (f (widened t new) (w .0))
 
   pub near-widened : (z : Point) (D : ℤ) → firstRefusal (distanceCheck D ∷ askedCheck z ∷ []) ≡ none
       → Answers (nearReply ps table z D) (nearPlain ps z D) (pointEnough ps)
   near-widened z D e =
-      subst (λ u. Answers (nearReply ps u z D) (nearPlain ps z D) (pointEnough ps)) same
-      (near-built ps (widened t new) built z D e)
+      as-built (λ u. Answers (nearReply ps u z D) (nearPlain ps z D) (pointEnough ps))
+      (λ u b. near-built ps u b z D e)
 
   pub in-widened : (z : Point) → firstRefusal (askedCheck z ∷ ringCheck LineA ps ∷ []) ≡ none
       → Answers (inReply ps table z) (inPlain ps z) (pointEnough ps)
   in-widened z e =
-      subst (λ u. Answers (inReply ps u z) (inPlain ps z) (pointEnough ps)) same
-      (in-built ps (widened t new) built z e)
+      as-built (λ u. Answers (inReply ps u z) (inPlain ps z) (pointEnough ps)) (λ u b. in-built ps u b z e)
 
 -- two lines: each has its old table, widened
 module _ (ps t new : List ℤ) (taken : oldRefusal ps t ≡ none) (room : widenRefusal t new ≡ none)
@@ -47,20 +44,20 @@ module _ (ps t new : List ℤ) (taken : oldRefusal ps t ≡ none) (room : widenR
   abbrev tableB : List ℤ
   tableB = table qs t′ new′ taken′ room′
 
+  both-built : (Q : List ℤ → List ℤ → Type 0)
+      → ((u v : List ℤ) → buildRefusal ps u ≡ none → buildRefusal qs v ≡ none → Q (builtTable ps u) (builtTable qs v))
+      → Q tableA tableB
+  both-built Q f =
+      as-built ps t new taken room (λ a. Q a tableB)
+      (λ u b. as-built qs t′ new′ taken′ room′ (Q (builtTable ps u)) (λ v c. f u v b c))
+
   pub meet-widened : Answers (meetReply ps tableA qs tableB) (meetPlain ps qs) (pairEnough ps qs)
   meet-widened =
-      subst (λ u. Answers (meetReply ps tableA qs u) (meetPlain ps qs) (pairEnough ps qs)) (same qs t′ new′ taken′ room′)
-      (subst (λ u. Answers (meetReply ps u qs (builtTable qs (widened t′ new′))) (meetPlain ps qs) (pairEnough ps qs))
-      (same ps t new taken room)
-      (meet-built ps (widened t new) (built ps t new taken room) qs (widened t′ new′) (built qs t′ new′ taken′ room′)))
+      both-built (λ a b. Answers (meetReply ps a qs b) (meetPlain ps qs) (pairEnough ps qs))
+      (λ u v b c. meet-built ps u b qs v c)
 
   pub agree-widened : (D : ℤ) → firstRefusal (distanceCheck D ∷ []) ≡ none
       → Answers (agreeReply ps tableA qs tableB D) (agreePlain ps qs D) (agreeEnough ps qs)
   agree-widened D e =
-      subst (λ u. Answers (agreeReply ps tableA qs u D) (agreePlain ps qs D) (agreeEnough ps qs))
-      (same qs t′ new′ taken′ room′)
-      (subst
-      (λ u. Answers (agreeReply ps u qs (builtTable qs (widened t′ new′)) D) (agreePlain ps qs D) (agreeEnough ps qs))
-      (same ps t new taken room)
-      (agree-built ps (widened t new) (built ps t new taken room) qs (widened t′ new′)
-      (built qs t′ new′ taken′ room′) D e))
+      both-built (λ a b. Answers (agreeReply ps a qs b D) (agreePlain ps qs D) (agreeEnough ps qs))
+      (λ u v b c. agree-built ps u b qs v c D e)

@@ -6,4 +6,3 @@ pub mod Order
 pub mod Range
 pub mod Machine
 pub mod Ops
-pub mod Words

@@ -21,7 +21,7 @@ use Rattle.rules.specs.Plane.{size²}
 use Rattle.limits.specs.Small.{Small}
 use Rattle.limits.proofs.Sizes.{size-wide}
 use Rattle.large.specs.Value.{roomy}
-use Rattle.line.proofs.Stored.{stored, stored-abs}
+use Rattle.line.proofs.Stored.{stored}
 use Rattle.reach.specs.Bounds.{ReachFits}
 
 -- a distance that passed refusal 7
@@ -51,7 +51,8 @@ module _ {u : Point} {v : ℤ} (small : Small u) (e : v ≡ size² u) where
   size-above = subst (λ (z : ℤ). pos 0 ≤ℤ z) (sym size-stored) (nn-add (nn-sq (u .x)) (nn-sq (u .y)))
 
   pub size-cast : T (nonNeg (toZ w64 (ofZ w64 v))) × Fits w64 (natAbs (toZ w64 (ofZ w64 v)))
-  size-cast = nat-cast {w = w64} {w′ = w64} (fits-of w64 (stored-abs (abs-at (sym e) (size-wide small)) tt) tt) tt refl size-above
+  size-cast =
+      nat-cast {w = w64} {w′ = w64} (fits-of w64 (abs-at (sym size-stored) (size-wide small)) tt) tt refl size-above
 
   pub size-roomy : natAbs (toZ w64 (ofZ w64 v)) ≤ roomy
   size-roomy = magnitude-roomy (ap natAbs size-stored) (size-wide small) tt

@@ -28,10 +28,13 @@ oldSheetCheck ps =
     let i = lowest (λ i. not (onOldSheet (point ps i))) 0 (pointsOf ps) in
     record { holds = ltb i (pointsOf ps); number = 4; line = LineA; place = i }
 
+-- 1, 2, 3, 4, 5, 6
+abbrev pub oldChecks : List ℤ → List ℤ → List Check
+oldChecks ps t = pointChecks LineA ps ++ oldSheetCheck ps ∷ neighbourCheck ps ∷ tableCheck LineA ps t ∷ []
+
 -- what an old build was refused for, and what it left in the table that was lent to it
 unfoldable pub oldRefusal : List ℤ → List ℤ → Option Refusal
-oldRefusal ps t =
-    firstRefusal (pointChecks LineA ps ++ oldSheetCheck ps ∷ neighbourCheck ps ∷ tableCheck LineA ps t ∷ [])
+oldRefusal ps t = firstRefusal (oldChecks ps t)
 
 unfoldable pub oldTable : List ℤ → List ℤ → List ℤ
 oldTable ps t = unlessRefused (oldRefusal ps t) (tableOf ps ++ drop (width * rowCount (segmentsOf ps)) t) t

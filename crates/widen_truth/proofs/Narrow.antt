@@ -1,5 +1,5 @@
--- Every number of the table of a line on the old sheet fits an i32: c and t are sums of two products of numbers that are
--- at most 2 * oldLimit, and the least and the greatest are taken among them.
+-- Every number of the table of a line on the old sheet fits an i32: c and t are sums of two products of numbers that
+-- are at most 2 * oldLimit, and the least and the greatest are taken among them.
 use mathlib.Core.Path.{_≡_}
 use mathlib.Core.Bool.{true}
 use mathlib.Core.List.{List, [], _∷_, _++_}

@@ -1,5 +1,5 @@
--- What the old rules let a builder write is what the builder writes now: the old sheet lies on the new one, and no other
--- rule has changed.
+-- What the old rules let a builder write is what the builder writes now: the old sheet lies on the new one, and no
+-- other rule has changed.
 use mathlib.Core.Path.{_≡_, sym, ap, _∙_}
 use mathlib.Core.Bool.{true, not}
 use mathlib.Core.List.{List, [], _∷_, _++_, append-assoc, append-nil}
@@ -17,11 +17,10 @@ use Rattle.integers.specs.Range.{abs-weaken}
 use Rattle.rules.specs.declared.Line.the-variants.{LineA}
 use Rattle.rules.specs.declared.Point.{Point}
 use Rattle.rules.specs.Sheet.{point, pointsOf, segmentsOf, limit, between, inSheet, onSheet}
-use Rattle.rules.specs.Rows.{pointChecks, tableCheck}
-use Rattle.rules.specs.Build.{equalNext, neighbourCheck, tableOf, buildRefusal, builtTable, unlessRefused}
-use Rattle.rules.specs.Old.{oldLimit, onOldSheet, oldSheetCheck, oldRefusal, oldTable, widenCheck, widenRefusal, widened}
+use Rattle.rules.specs.Build.{equalNext, tableOf, buildRefusal, builtTable, unlessRefused}
+use Rattle.rules.specs.Old.{oldLimit, onOldSheet, oldChecks, oldRefusal, oldTable, widenCheck, widenRefusal, widened}
 use Rattle.limits.proofs.OnSheets.{between-abs, abs-between}
-use Rattle.visits.proofs.Checks.{_then_, none-clear, clear-none, lengths-read}
+use Rattle.visits.proofs.Checks.{Clear, _then_, none-clear, clear-none, lengths-read}
 use Rattle.table_truth.specs.Accepted.{Accepted, rowNumbers}
 use Rattle.table_truth.proofs.Refusals.{none-has, none-refused}
 use Rattle.table_truth.proofs.Table.{built-whole, built-length, accepted-longer}
@@ -39,21 +38,21 @@ old-point p e =
 -- ---------------- what an old build was not refused for
 
 module _ (ps t : List ℤ) (e : oldRefusal ps t ≡ none) where
-  -- every point is on the old sheet
-  pub old-on : (i : ℕ) → i < pointsOf ps → onOldSheet (point ps i) ≡ true
+  -- no check of it holds
+  clear : Clear (oldChecks ps t)
   unfolding oldRefusal
+  clear = none-clear (oldChecks ps t) e
+
+  -- so every point is on the old sheet
+  pub old-on : (i : ℕ) → i < pointsOf ps → onOldSheet (point ps i) ≡ true
   old-on i h =
-      let c =
-      none-clear (pointChecks LineA ps ++ oldSheetCheck ps ∷ neighbourCheck ps ∷ tableCheck LineA ps t ∷ []) e in
       not-false (onOldSheet (point ps i))
-      (none-has (λ i. not (onOldSheet (point ps i))) (pointsOf ps) (c .1 .1 .1 .0) i h)
+      (none-has (λ i. not (onOldSheet (point ps i))) (pointsOf ps) (clear .1 .1 .1 .0) i h)
 
   -- and all that the builder asks now holds
   pub old-accepted : Accepted ps t
-  unfolding oldRefusal
   old-accepted =
-      let c =
-      none-clear (pointChecks LineA ps ++ oldSheetCheck ps ∷ neighbourCheck ps ∷ tableCheck LineA ps t ∷ []) e in
+      let c = clear in
       let later = c .1 .1 .1 in
       record {
         lengths = lengths-read LineA ps t (c .0 then c .1 .0 then c .1 .1 .0 then later .1 .1 .0 then tt);
@@ -65,7 +64,8 @@ module _ (ps t : List ℤ) (e : oldRefusal ps t ≡ none) where
   pub old-same : oldTable ps t ≡ builtTable ps t
   unfolding oldTable
   old-same =
-      ap (λ r. unlessRefused r (tableOf ps ++ drop (rowNumbers ps) t) t) e ∙ sym (built-whole ps t (none-refused ps t old-accepted))
+      ap (λ r. unlessRefused r (tableOf ps ++ drop (rowNumbers ps) t) t) e
+      ∙ sym (built-whole ps t (none-refused ps t old-accepted))
 
 -- ---------------- widening
 

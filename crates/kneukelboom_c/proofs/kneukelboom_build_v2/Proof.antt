@@ -7,7 +7,7 @@ use Rattle.kneukelboom_c.proofs.kneukelboom_build_v2.Tie as tie
 
 returns : tie.Need-returns
 returns c =
-    let build = c .before .before .build in (c .coded-built .ensures ∙ ap codedBuild (build .ensures .0), build .ensures .1)
+    let said = c .before .before .build .ensures in (c .coded-built .ensures ∙ ap codedBuild (said .0), said .1)
 
 pub kneukelboom-build-v2-spec : {M : Type 1} → statement M
 kneukelboom-build-v2-spec = tie.close (tie.spec (search needs) (search needs) (search needs) returns)

@@ -7,7 +7,7 @@ use Rattle.kneukelboom_c.proofs.kneukelboom_widen_v2.Tie as tie
 
 returns : tie.Need-returns
 returns c =
-    let widen = c .before .before .widen in (c .coded-built .ensures ∙ ap codedBuild (widen .ensures .0), widen .ensures .1)
+    let said = c .before .before .widen .ensures in (c .coded-built .ensures ∙ ap codedBuild (said .0), said .1)
 
 pub kneukelboom-widen-v2-spec : {M : Type 1} → statement M
 kneukelboom-widen-v2-spec = tie.close (tie.spec (search needs) (search needs) (search needs) returns)

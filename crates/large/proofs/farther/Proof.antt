@@ -34,8 +34,8 @@ left c = c .before .before
 plus-requires : tie.Need-plus-requires
 plus-requires c κs =
     let p = c .product in
-    let h = high-small (p .result .high) (p .result .low) (p .ensures) (let n = reach-small (c .before) in omega arith) in
-    (omega arith, omega arith)
+    let n = reach-small (c .before) in
+    let h = high-small (p .result .high) (p .result .low) (p .ensures) (omega arith) in (omega arith, omega arith)
 
 plus-requires-2 : tie.Need-plus-requires-2
 plus-requires-2 c κs =
