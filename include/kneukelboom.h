@@ -17,7 +17,7 @@
  *   4. A table that version 1 built, widened, is number by number the one that this version builds for the widened
  *      points.
  * Of a table as in 2, promises 2 and 3 are the theorems near-built, meet-built, in-built and agree-built; 3 holds of
- * any table. Promise 4 is the theorem widened-built.
+ * any table. Promise 4 is the theorem widened-built, of what the rules of version 1 let a builder write.
  *
  * A table from elsewhere is answered too, but only a sound one (good rows, strips and boxes that hold their points) as
  * in 2: where the strips or boxes of good-looking rows leave points out, a no or an outside can be false. Nothing here

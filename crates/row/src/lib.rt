@@ -65,7 +65,7 @@ pub fn splits_inside(r: Row, first: usize, last: usize) -> bool
     (first as i64) < r.split && r.split < last as i64
 }
 
-// Whether the range lo to hi holds 0. Comparisons joined by `&` are made at once: none of them is a branch.
+// Whether the range lo to hi holds 0.
 fn holds_zero(lo: i64, hi: i64) -> bool
     ensures { λ g. ⌜ g ≡ leZ lo (pos 0) && leZ (pos 0) hi ⌝ }
 {

@@ -22,7 +22,7 @@ use Rattle.rules.specs.Rows.{good}
 use Rattle.rules.specs.Questions.{shortfall, farFrom, nearVisit, nearReply, beyondCorners, apart, meetVisit}
 use Rattle.rules.specs.Questions.{meetReply, clearOf, inVisit, inReply, askAll, agreeWalk, agreeReply}
 use Rattle.rules.specs.Build.{lowest, buildRefusal, tableOf, builtTable}
-use Rattle.rules.specs.Old.{widened, widenRefusal}
+use Rattle.rules.specs.Old.{oldRefusal, oldTable, widened, widenRefusal}
 
 abbrev at : ℕ → ℕ → Point
 at x y = record { x = pos x; y = pos y }
@@ -186,3 +186,13 @@ pub widens-all-or-nothing :
     ≡ some (record { number = 6; line = NoLine; place = 0; visits = 0 }))
 unfolding tableOf rowsOf measured splitOf best better height least greatest direction widened widenRefusal
 widens-all-or-nothing = (refl, refl, refl)
+
+-- the old sheet: what its builds took and refused, and a table that one wrote
+pub the-old-sheet :
+    (oldRefusal (eastTo 16383) (pos 7 ∷ ten) ≡ none)
+    × (oldTable (eastTo 16383) (pos 7 ∷ pos 7 ∷ ten)
+    ≡ pos 0 ∷ pos 1 ∷ negsuc 0 ∷ pos 0 ∷ pos 0 ∷ pos 0 ∷ pos 268402689 ∷ pos 0 ∷ pos 16383 ∷ pos 0 ∷ pos 0 ∷ pos 7 ∷ [])
+    × (oldRefusal (eastTo 16384) (pos 7 ∷ ten) ≡ some (record { number = 4; line = LineA; place = 1; visits = 0 }))
+    × (oldTable (eastTo 16384) (pos 7 ∷ ten) ≡ pos 7 ∷ ten)
+unfolding oldRefusal oldTable lowest tableOf rowsOf measured splitOf best better height least greatest direction between
+the-old-sheet = (refl, refl, refl, refl)
