@@ -28,7 +28,7 @@ typedef struct line {
 } line;
 
 typedef struct question {
-    enum { NOTHING, BUILD, WIDEN, NEAR, INSIDE, MEET, AGREE } call;
+    enum { NOTHING, BUILD, WIDEN, CHECK, NEAR, INSIDE, MEET, AGREE } call;
     line *a;
     const line *b;
     kneukelboom_reply reply;
@@ -94,7 +94,8 @@ static void make_table_without_end(line *l) {
 
 /* ---- levels */
 
-/* The levels of calls from a row on. A walk goes to a right half in place of its node, a build calls itself twice. */
+/* The levels of calls from a row on. A walk and the checker go to a right half in place of its node, a build calls
+ * itself twice. */
 static size_t levels_from(const line *l, size_t row, int walks) {
     const int64_t *r = &l->table[row * KNEUKELBOOM_ROW_WIDTH];
     if (r[2] < 0) {
@@ -134,6 +135,9 @@ static void *ask(void *asked) {
         break;
     case WIDEN:
         q->reply = kneukelboom_widen(old, NUMBERS, a->points, NUMBERS);
+        break;
+    case CHECK:
+        q->reply = kneukelboom_check(a->points, NUMBERS, a->table, TABLE_NUMBERS);
         break;
     case NEAR:
         q->reply = kneukelboom_near(a->points, NUMBERS, a->table, TABLE_NUMBERS, x, y, 0, ALLOWANCE);
@@ -178,6 +182,7 @@ static size_t bytes_of(question *q) {
 static size_t bound_of(const question *q) {
     switch (q->call) {
     case BUILD:
+    case CHECK:
         return KNEUKELBOOM_STACK_BUILD(SEGMENTS);
     case WIDEN:
         return KNEUKELBOOM_STACK_BUILD(0);
@@ -213,6 +218,7 @@ int main(void) {
     const question build = {BUILD, &a, NULL, {0, 0, 0, 0, 0}};
     const question build_b = {BUILD, &b, NULL, {0, 0, 0, 0, 0}};
     const question widen = {WIDEN, &a, NULL, {0, 0, 0, 0, 0}};
+    const question check = {CHECK, &a, NULL, {0, 0, 0, 0, 0}};
     const question near = {NEAR, &a, NULL, {0, 0, 0, 0, 0}};
     const question inside = {INSIDE, &a, NULL, {0, 0, 0, 0, 0}};
     const question meet = {MEET, &a, &b, {0, 0, 0, 0, 0}};
@@ -222,6 +228,7 @@ int main(void) {
     make_comb(&b, 1);
     measure("build, a comb", build, KNEUKELBOOM_BUILT);
     measure("build, one unit higher", build_b, KNEUKELBOOM_BUILT);
+    measure("check, a comb", check, KNEUKELBOOM_ACCEPTED);
     measure("near, a comb", near, KNEUKELBOOM_YES);
     measure("meet, two combs", meet, KNEUKELBOOM_NO);
     measure("agree, two combs", agree, KNEUKELBOOM_NO);
@@ -230,6 +237,7 @@ int main(void) {
     make_comb_back(&b, 1);
     measure("build, a comb back", build, KNEUKELBOOM_BUILT);
     measure("build, one unit higher", build_b, KNEUKELBOOM_BUILT);
+    measure("check, a comb back", check, KNEUKELBOOM_ACCEPTED);
     measure("near, a comb back", near, KNEUKELBOOM_YES);
     measure("meet, two combs back", meet, KNEUKELBOOM_NO);
     measure("agree, two combs back", agree, KNEUKELBOOM_NO);
@@ -237,12 +245,14 @@ int main(void) {
     measure("agree, a comb back, twice", agree, KNEUKELBOOM_UNDECIDED);
     close_ring(&a);
     measure("build, a ring of a comb", build, KNEUKELBOOM_BUILT);
+    measure("check, a ring of a comb", check, KNEUKELBOOM_ACCEPTED);
     measure("inside, a ring of a comb", inside, KNEUKELBOOM_ON);
 
     make_flat_ring(&a, 0);
     make_flat_ring(&b, 9);
     make_table_without_end(&a);
     make_table_without_end(&b);
+    measure("check, rows by hand", check, KNEUKELBOOM_ACCEPTED);
     measure("near, rows by hand", near, KNEUKELBOOM_YES);
     measure("inside, rows by hand", inside, KNEUKELBOOM_ON);
     measure("meet, rows by hand", meet, KNEUKELBOOM_UNDECIDED);

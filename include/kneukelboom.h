@@ -2,26 +2,29 @@
  * kneukelboom.h: verified strip trees over whole-number lines, for C and C++.
  *
  * A line is a list of points in sheet units of 1/16 metre. Its strip tree is built once, into a table that the caller
- * lends; then four questions are asked of line and table: is a point near the line, do two lines meet, does a point lie
- * inside a ring, do two lines agree. docs/RULES.md has the rules. The functions are proved: docs/STATEMENTS.md names
- * the theorem for each promise below.
+ * lends, or checked once, where other software wrote the table; then four questions are asked of line and table: is a
+ * point near the line, do two lines meet, does a point lie inside a ring, do two lines agree. docs/RULES.md has the
+ * rules. The functions are proved: docs/STATEMENTS.md names the theorem for each promise below.
  *
  * Promises
  *   1. Every call takes every input and ends. Bad input gets its numbered refusal, by a fixed order of checks. A
  *      refused build or widening leaves what was lent to it as it was; numbers past those that it writes stay
- *      unchanged; a question writes nothing.
- *   2. For a table that kneukelboom_build wrote for these points, each answer is the one that plain geometry gives over
- *      all the original segments.
+ *      unchanged; the questions and the checker write nothing.
+ *   2. For a table that kneukelboom_build wrote, or that kneukelboom_check accepted, for these points, each answer is
+ *      the one that plain geometry gives over all the original segments.
  *   3. Once one allowance brings an answer or a refusal, every larger one brings the same after the same number of
  *      visits.
  *   4. A table that version 1 built, widened, is number by number the one that this version builds for the widened
  *      points.
- * Of a table as in 2, promises 2 and 3 are the theorems near-built, meet-built, in-built and agree-built; 3 holds of
- * any table. Promise 4 is the theorem widened-built, of what the rules of version 1 let a builder write.
+ * Promises 2 and 3 are, of a built table, the theorems near-built, meet-built, in-built and agree-built, and of an
+ * accepted one near-accepted, meet-accepted, in-accepted and agree-accepted; 3 holds of any table. Promise 4 is the
+ * theorem widened-built, of what the rules of version 1 let a builder write.
  *
- * A table from elsewhere is answered too, but only a sound one (good rows, strips and boxes that hold their points) as
- * in 2: where the strips or boxes of good-looking rows leave points out, a no or an outside can be false. Nothing here
- * tells.
+ * A table from elsewhere is answered too, but put it through kneukelboom_check first. What that accepts, and nobody
+ * changes afterwards, is as good as a built one. Where points can be built, it accepts exactly the sound tables, whose
+ * rows are good and whose strips and boxes hold their points (theorems accepted-sound, sound-accepted), so always what
+ * kneukelboom_build wrote (built-accepted). Over a table that was never checked, where the strips or boxes of
+ * good-looking rows leave points out, a no or an outside can be false, and no question tells.
  *
  * Undecided means: the search needs more visits than were allowed. It says nothing about the lines, and is never to be
  * read as a no. Ask again with a larger allowance. For lines of n and m segments these always suffice: 2n-1 visits for
@@ -29,8 +32,8 @@
  *
  * Nothing is allocated, kept or copied: no heap, no state between calls, so calls may run in several threads at once.
  *
- * Walks and the builder call themselves, and nothing proves that a thread has room for it: see KNEUKELBOOM_STACK_BUILD
- * and the two after it for what a thread with a small stack must have left.
+ * Walks, the builder and the checker call themselves, and nothing proves that a thread has room for it: see
+ * KNEUKELBOOM_STACK_BUILD and the two after it for what a thread with a small stack must have left.
  *
  * What the caller owes, as for any C function that takes arrays
  *   - A pointer leads to at least as many numbers as the length after it says. It may be null only where that length is
@@ -74,6 +77,7 @@ extern "C" {
 #define KNEUKELBOOM_SYMBOL(call, version) KNEUKELBOOM_PASTED(call, version)
 #define kneukelboom_build KNEUKELBOOM_SYMBOL(kneukelboom_build_v, KNEUKELBOOM_VERSION)
 #define kneukelboom_widen KNEUKELBOOM_SYMBOL(kneukelboom_widen_v, KNEUKELBOOM_VERSION)
+#define kneukelboom_check KNEUKELBOOM_SYMBOL(kneukelboom_check_v, KNEUKELBOOM_VERSION)
 #define kneukelboom_near KNEUKELBOOM_SYMBOL(kneukelboom_near_v, KNEUKELBOOM_VERSION)
 #define kneukelboom_inside KNEUKELBOOM_SYMBOL(kneukelboom_inside_v, KNEUKELBOOM_VERSION)
 #define kneukelboom_meet KNEUKELBOOM_SYMBOL(kneukelboom_meet_v, KNEUKELBOOM_VERSION)
@@ -91,10 +95,11 @@ extern "C" {
 #define KNEUKELBOOM_TABLE_LEN(points_len) ((points_len) < 4 ? 0 : KNEUKELBOOM_ROW_WIDTH * ((points_len) - 3))
 
 /*
- * The bytes of stack that a call takes at its deepest, for lines of so many segments: n for build, 0 for widen; n for
- * near and inside, the greater of n and m for agree; n + m for meet. A built tree is that deep only where each of its
- * splits lies next to an end. Not proved: examples/stack.c measures it, on lines of 4,097 points (build 393,416 bytes,
- * near 655,424, inside 786,480, agree 655,568, meet 1,179,752), and fails where that is more than is said here.
+ * The bytes of stack that a call takes at its deepest, for lines of so many segments: n for build and check, 0 for
+ * widen; n for near and inside, the greater of n and m for agree; n + m for meet. A tree, built or from elsewhere, is
+ * that deep only where each of its splits lies next to an end. Not proved: examples/stack.c measures it, on lines of
+ * 4,097 points (build 393,416 bytes, check 262,216, near 655,424, inside 786,480, agree 655,568, meet 1,179,752), and
+ * fails where that is more than is said here.
  */
 #define KNEUKELBOOM_STACK_BUILD(segments) (256 + 96 * (segments))
 #define KNEUKELBOOM_STACK_WALK(segments) (256 + 192 * (segments))
@@ -103,6 +108,7 @@ extern "C" {
 /* What a reply says: `word`. */
 enum {
     KNEUKELBOOM_BUILT = 0,     /* build: the table is written; widen: the numbers are */
+    KNEUKELBOOM_ACCEPTED = 0,  /* check: the table is sound for these points */
     KNEUKELBOOM_YES = 1,       /* near, meet, agree */
     KNEUKELBOOM_NO = 2,        /* near, meet, agree */
     KNEUKELBOOM_INSIDE = 3,    /* inside */
@@ -120,22 +126,26 @@ enum {
 };
 
 /*
- * Why a call was refused: `number`. Checked in this order: a build 1 to 6; widen 6 alone; a question 1, 2, 3, 6 (A
- * wholly, then B), then 7, 8 (in agree as each point comes up), 9, then 10 as it walks. Points and rows are counted
- * from 0; the place is 0 where none is named here. The line is the one whose points or table are at fault: A where a
- * call has one line; widen's 6, 7, and 8 outside agree, have none. (12 and 13 are the question program's own.)
+ * Why a call was refused: `number`. Checked in this order: a build 1 to 6; widen 6 alone; check 1 to 6, then row by
+ * row 21 and 22, so that the lowest row at fault decides; a question 1, 2, 3, 6 (A wholly, then B), then 7, 8 (in agree
+ * as each point comes up), 9, then 10 as it walks. Points and rows are counted from 0; the place is 0 where none is
+ * named here. The line is the one whose points or table are at fault: A where a call has one line; widen's 6, 7, and 8
+ * outside agree, have none. (12 and 13 are the question program's own.)
  */
 enum {
     KNEUKELBOOM_REFUSED_ODD_LENGTH = 1,       /* odd length of a points array */
     KNEUKELBOOM_REFUSED_TOO_FEW_POINTS = 2,   /* fewer than 2 points */
     KNEUKELBOOM_REFUSED_TOO_MANY_POINTS = 3,  /* more than 4,097 points */
-    KNEUKELBOOM_REFUSED_POINT_OFF_SHEET = 4,  /* build: a coordinate off the sheet; place: the lowest such point */
-    KNEUKELBOOM_REFUSED_EQUAL_NEIGHBOURS = 5, /* build: two neighbours equal (after all of 4); place: the lower point */
+    KNEUKELBOOM_REFUSED_POINT_OFF_SHEET = 4,  /* build, check: a point off the sheet; place: the lowest such point */
+    KNEUKELBOOM_REFUSED_EQUAL_NEIGHBOURS = 5, /* build, check: two neighbours equal, after all of 4; place: the lower */
     KNEUKELBOOM_REFUSED_SHORT_TABLE = 6,      /* table shorter than 11 * (2n-1); widen: fewer numbers lent than old */
     KNEUKELBOOM_REFUSED_DISTANCE = 7,         /* distance outside 0 to 2,000,000 */
     KNEUKELBOOM_REFUSED_ASKED_OFF_SHEET = 8,  /* asked point off the sheet; place: in agree the point's index, else 0 */
     KNEUKELBOOM_REFUSED_NO_RING = 9,          /* inside: fewer than 4 points, or first and last differ */
-    KNEUKELBOOM_REFUSED_BAD_ROW = 10          /* a row that was read at a visit is bad: the table is not this line's;
+    KNEUKELBOOM_REFUSED_BAD_ROW = 10,         /* a row that was read at a visit is bad: the table is not this line's;
+                                                 place: the row */
+    KNEUKELBOOM_REFUSED_ROW_NOT_GOOD = 21,    /* check: a row is not good for its range; place: the row */
+    KNEUKELBOOM_REFUSED_POINT_LEFT_OUT = 22   /* check: the strip or box of a good row leaves out a point of its run;
                                                  place: the row */
 };
 
@@ -154,6 +164,8 @@ static inline const char *kneukelboom_sentence(uint32_t number) {
     case KNEUKELBOOM_REFUSED_NO_RING:
         return "the line is no ring: it has fewer than 4 points, or does not end where it begins";
     case KNEUKELBOOM_REFUSED_BAD_ROW: return "a row of the table of the line is bad";
+    case KNEUKELBOOM_REFUSED_ROW_NOT_GOOD: return "a row of the table of the line is not good for its range";
+    case KNEUKELBOOM_REFUSED_POINT_LEFT_OUT: return "a row of the table of the line leaves out a point of its run";
     default: return "no refusal of the library has this number";
     }
 }
@@ -171,9 +183,9 @@ typedef struct kneukelboom_reply {
 } kneukelboom_reply;
 
 /*
- * Every length counts numbers, not points; points lie as x, y, x, y. In a question the table is one that build wrote
- * for these points; any other is answered too, with refusal 10 where a row that is read is bad, and at your own risk
- * where none is.
+ * Every length counts numbers, not points; points lie as x, y, x, y. In a question the table is one that build wrote or
+ * check accepted for these points; any other is answered too, with refusal 10 where a row that is read is bad, and at
+ * your own risk where none is.
  */
 
 /*
@@ -188,6 +200,14 @@ kneukelboom_reply kneukelboom_build(const int64_t *points, size_t points_len, in
  * the old ones stay unchanged.
  */
 kneukelboom_reply kneukelboom_widen(const int32_t *old, size_t old_len, int64_t *wide, size_t wide_len);
+
+/*
+ * Is a table sound for these points, whoever wrote it? Accepted or refused. It only reads, and has no allowance. Splits
+ * may be any inner points of their runs; strips and boxes may be wider than their points need, boxes up to the sheet's
+ * edge; numbers past the 2n-1 rows are not looked at. Over an accepted table the answers are those over the built one;
+ * the visits can differ, for a walk follows the splits of its table.
+ */
+kneukelboom_reply kneukelboom_check(const int64_t *points, size_t points_len, const int64_t *table, size_t table_len);
 
 /* Is (x,y) within the distance of some segment of the line? Exactly that far is within. Yes, no, undecided, refused. */
 kneukelboom_reply kneukelboom_near(const int64_t *points, size_t points_len, const int64_t *table, size_t table_len,

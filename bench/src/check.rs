@@ -1,15 +1,15 @@
-//! Every answer is held against the others: ours against the hand-written tree, and on lines within the old sheet
-//! against the archive before, in all five numbers, and against the plain scan in what it says. A difference ends the
-//! run with status 1.
+//! Every answer is held against the others: ours against the hand-written tree and the archive before, in all five
+//! numbers, and against the plain scan in what it says. A difference ends the run with status 1.
 
-use crate::before::Old;
+use crate::before;
 use crate::hand;
 use crate::lent;
+use crate::lent::line::LINE_A;
 use crate::lent::word::{NO, REFUSED, UNDECIDED, YES};
 use crate::plain;
 use crate::shapes::{Drawing, Pair, Random, Sheet};
 use crate::Reply;
-use kneukelboom::{FARTHEST, SHEET};
+use kneukelboom::{FARTHEST, ROW_WIDTH, SHEET};
 
 /// Prints the difference and ends the run.
 #[cold]
@@ -38,42 +38,46 @@ fn same_word(what: &str, ours: Reply, plain: u32) {
     }
 }
 
-/// A line with the table that all walk over, and as the archive before takes it, where it does.
+/// A line with the table that all walk over.
 pub struct Line {
     pub points: Vec<i64>,
     pub table: Vec<i64>,
-    pub before: Option<Old>,
 }
 
 impl Line {
     /// Builds with all builders, which must write the same numbers and leave what is past them.
     pub fn built(points: Vec<i64>) -> Line {
-        const PAST: i32 = 0x5a5a_5a5a;
+        const PAST: i64 = 0x5a5a_5a5a_5a5a_5a5a;
         let room = lent::table_len(points.len());
-        let narrow = vec![PAST; room + 5];
-        let mut tables = [(); 3].map(|()| widened(&narrow));
-        let mut before = Old::of(&points, &narrow);
-        let [ours, halves, runs] = &mut tables;
-        let reply = lent::build(&points, ours);
-        let by_hand = hand::build::<false>(&points, halves);
-        let by_form = hand::build::<true>(&points, runs);
-        let of_before = before.as_mut().map(Old::build);
-        same("build", reply, [Some(by_hand), Some(by_form), of_before]);
-        let old = before.as_ref().map(|old| widened(&old.table));
-        let refused = reply.built().is_err();
-        for table in tables.iter().chain(&old) {
-            let past = table[room..] == [i64::from(PAST); 5];
-            if *table != tables[0] || !past || (refused && table[0] != i64::from(PAST)) {
-                differ("build: the table", &tables[0], table);
+        let unwritten = vec![PAST; room + 5];
+        let mut table = unwritten.clone();
+        let reply = lent::build(&points, &mut table);
+        let mut tables = [(); 3].map(|()| unwritten.clone());
+        let [halves, runs, of_before] = &mut tables;
+        let others = [
+            Some(hand::build::<false>(&points, halves)),
+            Some(hand::build::<true>(&points, runs)),
+            before::reply(|| before::build(&points, of_before)),
+        ];
+        same("build", reply, others);
+        let written = if reply.built().is_err() { 0 } else { room };
+        if table[written..] != unwritten[written..] {
+            differ("build: what is to stay", &table, &unwritten);
+        }
+        for (other, _) in tables.iter().zip(others).filter(|(_, said)| said.is_some()) {
+            if *other != table {
+                differ("build: the table", &table, other);
             }
         }
-        let [mut table, ..] = tables;
         table.truncate(room);
-        Line {
-            points,
-            table,
-            before,
-        }
+        Line { points, table }
+    }
+
+    /// The same table, but that its row 1 does not begin where it should.
+    pub fn with_a_bad_row_1(&self) -> Vec<i64> {
+        let mut table = self.table.clone();
+        table[ROW_WIDTH] += 1;
+        table
     }
 
     /// So many pairs of a kind.
@@ -88,15 +92,6 @@ impl Line {
     pub fn slices((a, b): &(Line, Line)) -> (&[i64], &[i64], &[i64], &[i64]) {
         (&a.points, &a.table, &b.points, &b.table)
     }
-
-    /// Both as the archive before takes them.
-    pub fn before((a, b): &(Line, Line)) -> Option<(&Old, &Old)> {
-        a.before.as_ref().zip(b.before.as_ref())
-    }
-}
-
-fn widened(numbers: &[i32]) -> Vec<i64> {
-    numbers.iter().copied().map(i64::from).collect()
 }
 
 /// The reply of one question under every allowance that matters, given how to ask. Gives that of the greatest.
@@ -124,16 +119,18 @@ pub fn near(line: &Line, z: (i64, i64), d: i64) -> Reply {
     let reply = under_allowances(
         &what,
         |allowance| lent::near(p, t, x, y, d, allowance),
-        |allowance| {
-            [
-                Some(hand::near::<false>(p, t, x, y, d, allowance)),
-                Some(hand::near::<true>(p, t, x, y, d, allowance)),
-                line.before.as_ref().map(|old| old.near(z, d, allowance)),
-            ]
-        },
+        |allowance| near_by_others(p, t, z, d, allowance),
     );
     same_word(&what, reply, plain::near(p, z, d));
     reply
+}
+
+fn near_by_others(p: &[i64], t: &[i64], (x, y): (i64, i64), d: i64, allowance: u32) -> Others {
+    [
+        Some(hand::near::<false>(p, t, x, y, d, allowance)),
+        Some(hand::near::<true>(p, t, x, y, d, allowance)),
+        before::reply(|| before::near(p, t, x, y, d, allowance)),
+    ]
 }
 
 pub fn inside(line: &Line, z: (i64, i64)) -> Reply {
@@ -142,16 +139,18 @@ pub fn inside(line: &Line, z: (i64, i64)) -> Reply {
     let reply = under_allowances(
         &what,
         |allowance| lent::inside(p, t, x, y, allowance),
-        |allowance| {
-            [
-                Some(hand::inside::<false>(p, t, x, y, allowance)),
-                Some(hand::inside::<true>(p, t, x, y, allowance)),
-                line.before.as_ref().map(|old| old.inside(z, allowance)),
-            ]
-        },
+        |allowance| inside_by_others(p, t, z, allowance),
     );
     same_word(&what, reply, plain::inside(p, z));
     reply
+}
+
+fn inside_by_others(p: &[i64], t: &[i64], (x, y): (i64, i64), allowance: u32) -> Others {
+    [
+        Some(hand::inside::<false>(p, t, x, y, allowance)),
+        Some(hand::inside::<true>(p, t, x, y, allowance)),
+        before::reply(|| before::inside(p, t, x, y, allowance)),
+    ]
 }
 
 pub fn meet(pair: &(Line, Line)) -> Reply {
@@ -159,14 +158,18 @@ pub fn meet(pair: &(Line, Line)) -> Reply {
     let reply = under_allowances(
         "meet",
         |allowance| lent::meet(p, t, q, u, allowance),
-        |allowance| {
-            let by_hand = hand::meet(p, t, q, u, allowance);
-            let of_before = Line::before(pair).map(|(a, b)| a.meet(b, allowance));
-            [Some(by_hand), None, of_before]
-        },
+        |allowance| meet_by_others(p, t, q, u, allowance),
     );
     same_word("meet", reply, plain::meet(p, q));
     reply
+}
+
+fn meet_by_others(p: &[i64], t: &[i64], q: &[i64], u: &[i64], allowance: u32) -> Others {
+    [
+        Some(hand::meet(p, t, q, u, allowance)),
+        None,
+        before::reply(|| before::meet(p, t, q, u, allowance)),
+    ]
 }
 
 pub fn agree(pair: &(Line, Line), d: i64) -> Reply {
@@ -175,13 +178,7 @@ pub fn agree(pair: &(Line, Line), d: i64) -> Reply {
     let reply = under_allowances(
         &what,
         |allowance| lent::agree(p, t, q, u, d, allowance),
-        |allowance| {
-            [
-                Some(hand::agree::<false>(p, t, q, u, d, allowance)),
-                Some(hand::agree::<true>(p, t, q, u, d, allowance)),
-                Line::before(pair).map(|(a, b)| a.agree(b, d, allowance)),
-            ]
-        },
+        |allowance| agree_by_others(p, t, q, u, d, allowance),
     );
     let plain = plain::agree(p, q, d);
     let named = plain.unwrap_or((0, 0));
@@ -192,11 +189,42 @@ pub fn agree(pair: &(Line, Line), d: i64) -> Reply {
     reply
 }
 
+fn agree_by_others(p: &[i64], t: &[i64], q: &[i64], u: &[i64], d: i64, allowance: u32) -> Others {
+    [
+        Some(hand::agree::<false>(p, t, q, u, d, allowance)),
+        Some(hand::agree::<true>(p, t, q, u, d, allowance)),
+        before::reply(|| before::agree(p, t, q, u, d, allowance)),
+    ]
+}
+
+/// What all checkers say of a table.
+fn checked(p: &[i64], t: &[i64]) -> Reply {
+    let reply = lent::check(p, t);
+    let by_hand = hand::check::<false>(p, t);
+    let by_form = hand::check::<true>(p, t);
+    same("check", reply, [Some(by_hand), Some(by_form), None]);
+    reply
+}
+
+pub fn accepted(p: &[i64], t: &[i64]) {
+    let reply = checked(p, t);
+    if reply.accepted().is_err() {
+        differ("check", &reply, &"a table that is sound");
+    }
+}
+
+pub fn refused_for_row_1(p: &[i64], t: &[i64]) {
+    let reply = checked(p, t);
+    if (reply.number, reply.line, reply.place) != (21, LINE_A, 1) {
+        differ("check", &reply, &"a table whose row 1 is bad");
+    }
+}
+
 // ---- damaged input
 
 /// Asks `cases` times about small random lines, most of them with damaged tables, moved points, short slices or values
-/// out of range. Ours and the hand-written tree must refuse, or answer, alike in every number. Gives how many were
-/// refused.
+/// out of range. Ours, the hand-written tree and the archive before must refuse, or answer, alike in every number.
+/// Gives how many were refused.
 pub fn damaged(cases: u64) -> u64 {
     let mut random = Random(8);
     let mut refused = 0;
@@ -218,25 +246,18 @@ pub fn damaged(cases: u64) -> u64 {
     refused
 }
 
-/// The four questions, held against the hand-written tree.
-fn asked([a, b]: &[Line; 2], (x, y): (i64, i64), d: i64, allowance: u32) -> [Reply; 4] {
+/// The four questions and a check, held against the others.
+fn asked([a, b]: &[Line; 2], z: (i64, i64), d: i64, allowance: u32) -> [Reply; 5] {
     let (p, t, q, u) = (&a.points[..], &a.table[..], &b.points[..], &b.table[..]);
-    let near = lent::near(p, t, x, y, d, allowance);
-    let [hand, form] = [hand::near::<false>, hand::near::<true>];
-    let by_hand = [hand, form].map(|near| Some(near(p, t, x, y, d, allowance)));
-    same("near", near, [by_hand[0], by_hand[1], None]);
-    let inside = lent::inside(p, t, x, y, allowance);
-    let [hand, form] = [hand::inside::<false>, hand::inside::<true>];
-    let by_hand = [hand, form].map(|inside| Some(inside(p, t, x, y, allowance)));
-    same("inside", inside, [by_hand[0], by_hand[1], None]);
+    let near = lent::near(p, t, z.0, z.1, d, allowance);
+    same("near", near, near_by_others(p, t, z, d, allowance));
+    let inside = lent::inside(p, t, z.0, z.1, allowance);
+    same("inside", inside, inside_by_others(p, t, z, allowance));
     let meet = lent::meet(p, t, q, u, allowance);
-    let by_hand = hand::meet(p, t, q, u, allowance);
-    same("meet", meet, [Some(by_hand), None, None]);
+    same("meet", meet, meet_by_others(p, t, q, u, allowance));
     let agree = lent::agree(p, t, q, u, d, allowance);
-    let [hand, form] = [hand::agree::<false>, hand::agree::<true>];
-    let by_hand = [hand, form].map(|agree| Some(agree(p, t, q, u, d, allowance)));
-    same("agree", agree, [by_hand[0], by_hand[1], None]);
-    [near, inside, meet, agree]
+    same("agree", agree, agree_by_others(p, t, q, u, d, allowance));
+    [near, inside, meet, agree, checked(p, t)]
 }
 
 /// A short line; now and then one that cannot be built, or a ring.

@@ -13,14 +13,15 @@
 //! d^2 * |u|^2, reach 2^86: they are compared in 128 bits.
 //!
 //! Some come in two ways, chosen by `FORM`. False is the faster one. True has the form that is
-//! asked of the proved code: a walk calls itself on both halves, in place of a stack of its own; a
-//! builder measures strip and box of each node over its run of points, in place of putting the box
-//! together from those of the halves. What the form alone costs is the difference between the two.
+//! asked of the proved code: a walk or a check calls itself on both halves, in place of a stack of its
+//! own; a builder measures strip and box of each node over its run of points, in place of putting the
+//! box together from those of the halves (a check has no gain of that). What the form alone costs is the
+//! difference between the two.
 
 use core::mem::MaybeUninit;
 
 use crate::lent::line::{LINE_A, LINE_B, NO_LINE};
-use crate::lent::word::{BUILT, INSIDE, NO, ON, OUTSIDE, REFUSED, UNDECIDED, YES};
+use crate::lent::word::{ACCEPTED, BUILT, INSIDE, NO, ON, OUTSIDE, REFUSED, UNDECIDED, YES};
 use crate::Reply;
 use kneukelboom::{FARTHEST, MOST_POINTS, ROW_WIDTH as ROW, SHEET};
 
@@ -754,22 +755,29 @@ pub fn meet(
 
 // ---- building
 
-#[inline(never)]
-pub fn build<const FORM: bool>(points: &[i64], table: &mut [i64]) -> Reply {
-    let n = match segments(points, LINE_A) {
-        Ok(n) => n,
-        Err(refusal) => return refusal,
-    };
+/// Refusals 1 to 6, or the number of segments of a line that can be built into so much room.
+#[inline(always)]
+fn buildable(points: &[i64], room: usize) -> Result<usize, Reply> {
+    let n = segments(points, LINE_A)?;
     if let Some(i) = points.iter().position(|&v| !in_sheet(v)) {
-        return refused(4, LINE_A, (i / 2) as u64, 0);
+        return Err(refused(4, LINE_A, (i / 2) as u64, 0));
     }
     let next = points.chunks_exact(2).skip(1);
     if let Some(i) = points.chunks_exact(2).zip(next).position(|(p, q)| p == q) {
-        return refused(5, LINE_A, i as u64, 0);
+        return Err(refused(5, LINE_A, i as u64, 0));
     }
-    if table.len() < ROW * (2 * n - 1) {
-        return refused(6, LINE_A, 0, 0);
+    if room < ROW * (2 * n - 1) {
+        return Err(refused(6, LINE_A, 0, 0));
     }
+    Ok(n)
+}
+
+#[inline(never)]
+pub fn build<const FORM: bool>(points: &[i64], table: &mut [i64]) -> Reply {
+    let n = match buildable(points, table.len()) {
+        Ok(n) => n,
+        Err(refusal) => return refusal,
+    };
     // SAFETY: points 0 to n may be read, rows 0 to 2n-2 written.
     unsafe { grow::<FORM>(points.as_ptr(), table.as_mut_ptr(), 0, n) };
     says(BUILT, 0)
@@ -860,4 +868,120 @@ unsafe fn grow<const FORM: bool>(
         extent.ymax,
     ]);
     extent
+}
+
+// ---- checking
+
+#[inline(never)]
+pub fn check<const FORM: bool>(points: &[i64], table: &[i64]) -> Reply {
+    let n = match buildable(points, table.len()) {
+        Ok(n) => n,
+        Err(refusal) => return refusal,
+    };
+    let tree = Tree {
+        points: points.as_ptr(),
+        table: table.as_ptr(),
+        n,
+        line: LINE_A,
+    };
+    // SAFETY: the lengths were checked.
+    let fault = unsafe {
+        if FORM {
+            let Node { row, first, last } = tree.root();
+            tree.fault_by_calls(row, first, last)
+        } else {
+            tree.fault_by_stack(&mut { NOTHING_DUE })
+        }
+    };
+    match fault {
+        SOUND => says(ACCEPTED, 0),
+        _ => refused((fault % FAULTS) as u32, LINE_A, (fault / FAULTS) as u64, 0),
+    }
+}
+
+/// No row is at fault.
+const SOUND: usize = 0;
+/// A fault is its row, so many times, and the number of its refusal.
+const FAULTS: usize = 32;
+
+/// Whether v lies from lo to hi, for lo <= hi: by one comparison, for what is below lo wraps to what is above all.
+#[inline(always)]
+fn holds((lo, hi): (i64, i64), v: i64) -> bool {
+    v.wrapping_sub(lo) as u64 <= hi.wrapping_sub(lo) as u64
+}
+
+impl Tree {
+    /// The split of a row that is good and holds its run, or the number of its refusal.
+    ///
+    /// SAFETY: as for `see`.
+    #[inline(always)]
+    unsafe fn checked(&self, node: Node) -> Result<usize, usize> {
+        let seen = self.see(node).ok_or(21_usize)?;
+        let in_box = |p: Point| holds(seen.x, p.0) & holds(seen.y, p.1);
+        let axes = Axes::of(seen.from, seen.to);
+        // Of the ends only t of the last can be outside the strip: all else is 0.
+        let ends = in_box(seen.from) & in_box(seen.to) & (axes.t(seen.to) <= seen.t.1);
+        if !ends {
+            return Err(22);
+        }
+        for i in node.first + 1..node.last {
+            let p = self.point(i);
+            if !(holds(seen.c, axes.c(p)) & holds(seen.t, axes.t(p)) & in_box(p)) {
+                return Err(22);
+            }
+        }
+        Ok(seen.split)
+    }
+
+    #[cold]
+    fn fault(&self, node: Node, number: usize) -> usize {
+        FAULTS * self.row_of(node) + number
+    }
+
+    /// The first fault of all rows, by a stack of its own.
+    ///
+    /// SAFETY: the table's rows may be read.
+    #[inline(always)]
+    unsafe fn fault_by_stack(&self, due: &mut Due) -> usize {
+        let mut node = self.root();
+        let mut top = 0;
+        loop {
+            let split = match self.checked(node) {
+                Ok(split) => split,
+                Err(number) => return self.fault(node, number),
+            };
+            if node.size() > 1 {
+                due.get_unchecked_mut(top).write(node.last as u16);
+                top += 1;
+                node = node.left(split);
+            } else if top > 0 {
+                top -= 1;
+                node = node.after(usize::from(due.get_unchecked(top).assume_init()));
+            } else {
+                return SOUND;
+            }
+        }
+    }
+
+    /// The first fault of a node's rows, by calls. The node is handed on in registers.
+    ///
+    /// SAFETY: as for `see`.
+    unsafe fn fault_by_calls(&self, row: *const i64, first: usize, last: usize) -> usize {
+        let mut node = Node { row, first, last };
+        loop {
+            let split = match self.checked(node) {
+                Ok(split) => split,
+                Err(number) => return self.fault(node, number),
+            };
+            if node.size() == 1 {
+                return SOUND;
+            }
+            let Node { row, first, last } = node.left(split);
+            let left = self.fault_by_calls(row, first, last);
+            if left != SOUND {
+                return left;
+            }
+            node = node.right(split);
+        }
+    }
 }

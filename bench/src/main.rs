@@ -21,11 +21,10 @@ use std::hint::black_box;
 use std::process::ExitCode;
 use std::time::Instant;
 
-use before::Old;
 use check::Line;
 use kneukelboom::lent::word::{INSIDE, ON, YES};
 pub use kneukelboom::lent::{self, Reply};
-use race::{Race, Runner, Runners};
+use race::{Race, Runners};
 use report::{Question, Report, Row};
 use shapes::{Drawing, Random, Shape, Sheet, PAIRS, POINTS, SHAPES, SHEETS};
 use times::Times;
@@ -116,6 +115,7 @@ fn main() -> ExitCode {
 
     let drawings = || options.drawings().into_iter();
     drawings().for_each(|drawing| bench.build(drawing));
+    drawings().for_each(|drawing| bench.checker(drawing));
     drawings().for_each(|drawing| bench.near(drawing));
     let rings = drawings().filter(|drawing| drawing.shape == Shape::Ring);
     rings.for_each(|drawing| bench.inside(drawing));
@@ -137,28 +137,38 @@ struct Bench {
 
 impl Bench {
     fn build(&mut self, drawing: Drawing) {
-        let mut line = Line::built(drawing.alone());
+        let line = Line::built(drawing.alone());
         let points = || black_box(&line.points[..]);
-        let [mut a, mut b, mut c] = [(); 3].map(|()| line.table.clone());
-        let mut old = line.before.take();
-        let mut before = old
-            .as_mut()
-            .map(|old| || sum([black_box(&mut *old).build()]));
+        let [mut a, mut b, mut c, mut d] = [(); 4].map(|()| line.table.clone());
         let times = self.race.run(Runners {
-            ours: &mut || sum([lent::build(points(), &mut a)]),
-            before: before.as_mut().map(|run| run as Runner),
-            hand: &mut || sum([hand::build::<false>(points(), &mut b)]),
-            form: Some(&mut || sum([hand::build::<true>(points(), &mut c)])),
-            plain: None,
+            ours: Some(&mut || sum([lent::build(points(), &mut a)])),
+            before: before::runner(&mut || sum([before::build(points(), &mut b)])),
+            hand: Some(&mut || sum([hand::build::<false>(points(), &mut c)])),
+            form: Some(&mut || sum([hand::build::<true>(points(), &mut d)])),
+            ..Runners::default()
         });
-        self.add(
-            Question::Build,
-            drawing,
-            "",
-            None,
-            &[],
-            times.per(drawing.n),
-        );
+        let times = times.per(drawing.n);
+        self.add(Question::Build, drawing, "", None, &[], times);
+    }
+
+    fn checker(&mut self, drawing: Drawing) {
+        let line = Line::built(drawing.alone());
+        let faulty = line.with_a_bad_row_1();
+        check::accepted(&line.points, &line.table);
+        check::refused_for_row_1(&line.points, &faulty);
+        let points = || black_box(&line.points[..]);
+        let table = || black_box(&line.table[..]);
+        let mut built = line.table.clone();
+        let times = self.race.run(Runners {
+            ours: Some(&mut || sum([lent::check(points(), table())])),
+            hand: Some(&mut || sum([hand::check::<false>(points(), table())])),
+            form: Some(&mut || sum([hand::check::<true>(points(), table())])),
+            build: Some(&mut || sum([lent::build(points(), &mut built)])),
+            early: Some(&mut || sum([lent::check(points(), black_box(&faulty))])),
+            ..Runners::default()
+        });
+        let times = times.per(drawing.n);
+        self.add(Question::Check, drawing, "", None, &[], times);
     }
 
     fn near(&mut self, drawing: Drawing) {
@@ -170,20 +180,19 @@ impl Bench {
             let each = || black_box(&asked[..]).iter().copied();
             for d in distances(drawing.sheet) {
                 let replies: Vec<_> = each().map(|z| check::near(&line, z, d)).collect();
-                let mut before = line
-                    .before
-                    .as_ref()
-                    .map(|old| move || sum(each().map(|z| old.near(z, d, ENOUGH))));
                 let times = self.race.run(Runners {
-                    ours: &mut || sum(each().map(|(x, y)| lent::near(p, t, x, y, d, ENOUGH))),
-                    before: before.as_mut().map(|run| run as Runner),
-                    hand: &mut || {
+                    ours: Some(&mut || sum(each().map(|(x, y)| lent::near(p, t, x, y, d, ENOUGH)))),
+                    before: before::runner(&mut || {
+                        sum(each().map(|(x, y)| before::near(p, t, x, y, d, ENOUGH)))
+                    }),
+                    hand: Some(&mut || {
                         sum(each().map(|(x, y)| hand::near::<false>(p, t, x, y, d, ENOUGH)))
-                    },
+                    }),
                     form: Some(&mut || {
                         sum(each().map(|(x, y)| hand::near::<true>(p, t, x, y, d, ENOUGH)))
                     }),
                     plain: Some(&mut || each().map(|z| u64::from(plain::near(p, z, d))).sum()),
+                    ..Runners::default()
                 });
                 let times = times.per(ASKED);
                 let asked = kind.name();
@@ -200,18 +209,19 @@ impl Bench {
             let asked = kind.some(drawing.sheet, p, ASKED, &mut random);
             let each = || black_box(&asked[..]).iter().copied();
             let replies: Vec<_> = each().map(|z| check::inside(&line, z)).collect();
-            let mut before = line
-                .before
-                .as_ref()
-                .map(|old| move || sum(each().map(|z| old.inside(z, ENOUGH))));
             let times = self.race.run(Runners {
-                ours: &mut || sum(each().map(|(x, y)| lent::inside(p, t, x, y, ENOUGH))),
-                before: before.as_mut().map(|run| run as Runner),
-                hand: &mut || sum(each().map(|(x, y)| hand::inside::<false>(p, t, x, y, ENOUGH))),
+                ours: Some(&mut || sum(each().map(|(x, y)| lent::inside(p, t, x, y, ENOUGH)))),
+                before: before::runner(&mut || {
+                    sum(each().map(|(x, y)| before::inside(p, t, x, y, ENOUGH)))
+                }),
+                hand: Some(&mut || {
+                    sum(each().map(|(x, y)| hand::inside::<false>(p, t, x, y, ENOUGH)))
+                }),
                 form: Some(&mut || {
                     sum(each().map(|(x, y)| hand::inside::<true>(p, t, x, y, ENOUGH)))
                 }),
                 plain: Some(&mut || each().map(|z| u64::from(plain::inside(p, z))).sum()),
+                ..Runners::default()
             });
             let times = times.per(ASKED);
             self.add(Question::In, drawing, kind.name(), None, &replies, times);
@@ -223,21 +233,18 @@ impl Bench {
             let pairs = Line::pairs(drawing, kind, TURNS);
             let each = || black_box(&pairs[..]).iter().map(Line::slices);
             let replies: Vec<_> = pairs.iter().map(check::meet).collect();
-            let olds: Option<Vec<_>> = pairs.iter().map(Line::before).collect();
-            let mut before = olds.as_ref().map(|olds: &Vec<(&Old, &Old)>| {
-                let each = || black_box(&olds[..]).iter();
-                move || sum(each().map(|(a, b)| a.meet(b, ENOUGH)))
-            });
             let times = self.race.run(Runners {
-                ours: &mut || sum(each().map(|(p, t, q, u)| lent::meet(p, t, q, u, ENOUGH))),
-                before: before.as_mut().map(|run| run as Runner),
-                hand: &mut || sum(each().map(|(p, t, q, u)| hand::meet(p, t, q, u, ENOUGH))),
-                form: None,
+                ours: Some(&mut || sum(each().map(|(p, t, q, u)| lent::meet(p, t, q, u, ENOUGH)))),
+                before: before::runner(&mut || {
+                    sum(each().map(|(p, t, q, u)| before::meet(p, t, q, u, ENOUGH)))
+                }),
+                hand: Some(&mut || sum(each().map(|(p, t, q, u)| hand::meet(p, t, q, u, ENOUGH)))),
                 plain: Some(&mut || {
                     each()
                         .map(|(p, _, q, _)| u64::from(plain::meet(p, q)))
                         .sum()
                 }),
+                ..Runners::default()
             });
             let times = times.per(TURNS);
             self.add(Question::Meet, drawing, kind.name(), None, &replies, times);
@@ -248,33 +255,28 @@ impl Bench {
         for kind in PAIRS {
             let pairs = Line::pairs(drawing, kind, TURNS);
             let each = || black_box(&pairs[..]).iter().map(Line::slices);
-            let olds: Option<Vec<_>> = pairs.iter().map(Line::before).collect();
             for d in distances(drawing.sheet) {
                 let replies: Vec<_> = pairs.iter().map(|pair| check::agree(pair, d)).collect();
-                let mut before = olds.as_ref().map(|olds: &Vec<(&Old, &Old)>| {
-                    let each = || black_box(&olds[..]).iter();
-                    move || sum(each().map(|(a, b)| a.agree(b, d, ENOUGH)))
+                let times = self.race.run(Runners {
+                    ours: Some(&mut || {
+                        sum(each().map(|(p, t, q, u)| lent::agree(p, t, q, u, d, ENOUGH)))
+                    }),
+                    before: before::runner(&mut || {
+                        sum(each().map(|(p, t, q, u)| before::agree(p, t, q, u, d, ENOUGH)))
+                    }),
+                    hand: Some(&mut || {
+                        sum(each().map(|(p, t, q, u)| hand::agree::<false>(p, t, q, u, d, ENOUGH)))
+                    }),
+                    form: Some(&mut || {
+                        sum(each().map(|(p, t, q, u)| hand::agree::<true>(p, t, q, u, d, ENOUGH)))
+                    }),
+                    plain: Some(&mut || {
+                        each()
+                            .map(|(p, _, q, _)| u64::from(plain::agree(p, q, d).is_none()))
+                            .sum()
+                    }),
+                    ..Runners::default()
                 });
-                let times =
-                    self.race.run(Runners {
-                        ours: &mut || {
-                            sum(each().map(|(p, t, q, u)| lent::agree(p, t, q, u, d, ENOUGH)))
-                        },
-                        before: before.as_mut().map(|run| run as Runner),
-                        hand: &mut || {
-                            sum(each()
-                                .map(|(p, t, q, u)| hand::agree::<false>(p, t, q, u, d, ENOUGH)))
-                        },
-                        form: Some(&mut || {
-                            sum(each()
-                                .map(|(p, t, q, u)| hand::agree::<true>(p, t, q, u, d, ENOUGH)))
-                        }),
-                        plain: Some(&mut || {
-                            each()
-                                .map(|(p, _, q, _)| u64::from(plain::agree(p, q, d).is_none()))
-                                .sum()
-                        }),
-                    });
                 let times = times.per(TURNS);
                 let asked = kind.name();
                 self.add(Question::Agree, drawing, asked, Some(d), &replies, times);

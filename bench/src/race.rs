@@ -9,16 +9,21 @@ use crate::times::Times;
 pub type Runner<'a> = &'a mut (dyn FnMut() -> u64 + 'a);
 
 /// What is timed in a cell.
+#[derive(Default)]
 pub struct Runners<'a> {
-    pub ours: Runner<'a>,
+    pub ours: Option<Runner<'a>>,
     /// The archive before.
     pub before: Option<Runner<'a>>,
     /// The hand-written tree.
-    pub hand: Runner<'a>,
+    pub hand: Option<Runner<'a>>,
     /// The same in the prescribed form.
     pub form: Option<Runner<'a>>,
     /// The plain scan.
     pub plain: Option<Runner<'a>>,
+    /// Beside a check: the build of the same line.
+    pub build: Option<Runner<'a>>,
+    /// And the check of a table that is at fault soon.
+    pub early: Option<Runner<'a>>,
 }
 
 /// The orders in which so many lanes run, repetition after repetition: over all of them each lane follows each other
@@ -55,18 +60,21 @@ struct Lane<'a> {
 
 impl Race {
     /// Times all runners in the orders above. One that comes to another sum than before ends the run.
-    pub fn run(&self, runners: Runners) -> Times {
+    pub fn run<'a>(&self, runners: Runners<'a>) -> Times {
         let Runners {
             ours,
             before,
             hand,
             form,
             plain,
+            build,
+            early,
         } = runners;
-        let trees = [Some(ours), before, Some(hand), form];
-        let [ours, before, hand, form] = trees.map(|runner| Some(lane(runner?, usize::MAX)));
+        let quick = |runner: Option<Runner<'a>>| Some(lane(runner?, usize::MAX));
+        let [ours, before, hand, form] = [ours, before, hand, form].map(quick);
+        let [build, early] = [build, early].map(quick);
         let plain = plain.map(|runner| lane(runner, 3));
-        let mut lanes = [ours, before, hand, form, plain];
+        let mut lanes = [ours, before, hand, form, plain, build, early];
         self.time(lanes.iter_mut().flatten().collect());
         Times::of(lanes.map(|lane| lane.map_or(vec![], |lane| lane.times)))
     }

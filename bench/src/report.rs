@@ -3,20 +3,22 @@
 use std::fs;
 
 use crate::before;
-use crate::shapes::{Drawing, Sheet, SHEETS};
+use crate::shapes::{Drawing, Shape, Sheet, SHEETS};
 use crate::times::{median, Times};
 
 #[derive(Clone, Copy, PartialEq, Eq, Debug)]
 pub enum Question {
     Build,
+    Check,
     Near,
     In,
     Meet,
     Agree,
 }
 
-const QUESTIONS: [Question; 5] = [
+const QUESTIONS: [Question; 6] = [
     Question::Build,
+    Question::Check,
     Question::Near,
     Question::In,
     Question::Meet,
@@ -27,6 +29,7 @@ impl Question {
     fn name(self) -> &'static str {
         match self {
             Question::Build => "build",
+            Question::Check => "check",
             Question::Near => "near",
             Question::In => "in",
             Question::Meet => "meet",
@@ -34,13 +37,19 @@ impl Question {
         }
     }
 
-    /// The hand-written tree that a bar speaks of, and the other one. A build is to measure each run whole, as form
-    /// does; but on wide lines it is held against what is fastest by hand.
+    /// What a bar speaks of, and what is told beside the bars. A build is to measure each run whole, as form does; but
+    /// on wide lines it is held against what is fastest by hand. A check is held against the build of the same line.
     fn yardsticks(self, sheet: Sheet) -> [Yardstick; 2] {
         match (self, sheet) {
+            (Question::Check, _) => [Yardstick::Build, Yardstick::Hand],
             (Question::Build, Sheet::Old) => [Yardstick::Form, Yardstick::Hand],
             _ => [Yardstick::Hand, Yardstick::Form],
         }
+    }
+
+    /// Whether the archive before is asked it. It need not have a checker.
+    fn of_before(self) -> bool {
+        before::ARCHIVE.is_some() && self != Question::Check
     }
 }
 
@@ -50,6 +59,7 @@ enum Yardstick {
     Before,
     Hand,
     Form,
+    Build,
 }
 
 impl Yardstick {
@@ -58,6 +68,7 @@ impl Yardstick {
             Yardstick::Before => "before",
             Yardstick::Hand => "hand",
             Yardstick::Form => "form",
+            Yardstick::Build => "build",
         }
     }
 
@@ -66,14 +77,16 @@ impl Yardstick {
             Yardstick::Before => times.ours_by_before,
             Yardstick::Hand => times.ours_by_hand,
             Yardstick::Form => times.ours_by_form,
+            Yardstick::Build => times.ours_by_build,
         }
     }
 
     /// What a bar allows at most.
     fn most(self, question: Question, sheet: Sheet) -> f64 {
         match (self, question, sheet) {
+            (Yardstick::Build, _, _) => 1.00,
             (Yardstick::Before, Question::Build, _) => 1.10,
-            (Yardstick::Before, _, _) | (_, _, Sheet::Wide) => 1.15,
+            (Yardstick::Before, _, _) | (_, Question::Check, _) | (_, _, Sheet::Wide) => 1.15,
             (_, _, Sheet::Old) => 1.10,
         }
     }
@@ -92,7 +105,7 @@ pub struct Row {
 }
 
 /// The table's columns with their widths. The first four stand to the left.
-const COLUMNS: [(&str, usize); 17] = [
+const COLUMNS: [(&str, usize); 19] = [
     ("", 5),
     ("sheet", 5),
     ("line", 6),
@@ -106,11 +119,23 @@ const COLUMNS: [(&str, usize); 17] = [
     ("hand", 10),
     ("form", 10),
     ("plain", 12),
+    ("build", 10),
     ("ours/before", 11),
     ("ours/hand", 9),
     ("ours/form", 9),
     ("plain/ours", 10),
+    ("ours/build", 10),
 ];
+
+/// Whether a column has anything to say of a question.
+fn applies(column: &str, question: Question) -> bool {
+    match column {
+        "before" | "ours/before" => question.of_before(),
+        "plain" | "plain/ours" => ![Question::Build, Question::Check].contains(&question),
+        "build" | "ours/build" => question == Question::Check,
+        _ => true,
+    }
+}
 
 impl Row {
     fn fields(&self) -> [String; COLUMNS.len()] {
@@ -129,10 +154,12 @@ impl Row {
             number(times.hand),
             number(times.form),
             number(times.plain),
+            number(times.build),
             shown(times.ours_by_before, two_places),
             shown(times.ours_by_hand, two_places),
             shown(times.ours_by_form, two_places),
             number(times.plain_by_ours),
+            shown(times.ours_by_build, two_places),
         ]
     }
 
@@ -147,11 +174,11 @@ impl Row {
     }
 }
 
-/// One line of the table. What speaks of the archive before is left out where there is none.
-fn print_fields(fields: [String; COLUMNS.len()]) {
+/// One line of the table of a question.
+fn print_fields(question: Question, fields: [String; COLUMNS.len()]) {
     let mut line = String::new();
     for (k, ((name, width), field)) in COLUMNS.into_iter().zip(fields).enumerate() {
-        if name.contains("before") && before::ARCHIVE.is_none() {
+        if !applies(name, question) {
             continue;
         }
         line += &if k < 4 {
@@ -184,14 +211,16 @@ old    lines within the sheet of 32-bit tables, -16,383 to 16,383
 wide   the same lines 61 times as large, over the sheet of today: squares pass 64 bits
 
 ours   the archive
-before the archive of version 1, of 32-bit points and tables
-hand   the hand-written strip tree: same rows, same walk, same row check; walks by a stack, boxes from the halves
-form   the same in the form that is asked of ours: walks by calls, each run measured whole (meet: hand is)
+before the archive of the landing before
+hand   the hand-written strip tree: same rows, same walk, same row check; walks and checks by a stack, boxes of a build
+       from the halves
+form   the same in the form that is asked of ours: walks and checks by calls, each run measured whole (meet: hand is)
 plain  the plain scan over all segments
+build  beside a check: ours building the same line
 
-Nanoseconds per question, for build per segment: medians of {repetitions} interleaved repetitions or a few more. Ratios
-are medians of those within a repetition. Every answer is compared: all numbers of ours, before, hand and form, the
-word with plain.
+Nanoseconds per question, for build and check per segment: medians of {repetitions} interleaved repetitions or a few
+more. Ratios are medians of those within a repetition. Every answer is compared: all numbers of ours, before, hand and
+form, the word with plain.
 "
     );
 }
@@ -214,9 +243,9 @@ impl Report {
         if !self.summary_only {
             if self.rows.last().map(group) != Some(group(&row)) {
                 println!();
-                print_fields(COLUMNS.map(|(name, _)| name.to_string()));
+                print_fields(row.question, COLUMNS.map(|(name, _)| name.to_string()));
             }
-            print_fields(row.fields());
+            print_fields(row.question, row.fields());
         }
         self.rows.push(row);
     }
@@ -239,11 +268,17 @@ impl Report {
         for sheet in SHEETS {
             self.by_size(sheet);
         }
-        if before::ARCHIVE.is_some() {
-            self.by_shape();
+        for sheet in SHEETS {
+            self.by_shape(sheet, Yardstick::Before, Question::of_before);
+            self.by_shape(sheet, Yardstick::Build, |question| {
+                question == Question::Check
+            });
         }
+        self.early();
         let met = self.bars();
-        println!("\nbeside the bars: against the other hand-written tree");
+        println!(
+            "\nbeside the bars: against the other hand-written tree, and a check against hand"
+        );
         for sheet in SHEETS {
             for question in QUESTIONS.into_iter().filter(|&q| q != Question::Meet) {
                 self.held(question, sheet, question.yardsticks(sheet)[1]);
@@ -284,34 +319,58 @@ impl Report {
         }
     }
 
-    /// Ours over the archive before, by question, shape and size.
-    fn by_shape(&self) {
-        println!("\nold: ours/before, the median over the cells of a shape and size, the least and the greatest");
+    /// Ours over something else by shape and size, for the questions that it is held against.
+    fn by_shape(&self, sheet: Sheet, by: Yardstick, is_held: fn(Question) -> bool) {
+        let questions: Vec<Question> = QUESTIONS.into_iter().filter(|&q| is_held(q)).collect();
+        if questions.is_empty() {
+            return;
+        }
+        println!(
+            "\n{}: ours/{}, the median over the cells of a shape and size; of several the least and the greatest",
+            sheet.name(),
+            by.name()
+        );
         print!("{:<12}", "");
         for n in self.sizes() {
             print!(" {:>18}", format!("n {n}"));
         }
         println!();
-        for question in QUESTIONS {
-            let mut names: Vec<&str> = vec![];
-            for row in self.of(question, Sheet::Old) {
-                let name = row.drawing.shape.name();
-                if !names.contains(&name) {
-                    names.push(name);
-                }
-            }
-            for name in names {
-                print!("{:<5} {name:<6}", question.name());
+        for question in questions {
+            for shape in self.shapes(question) {
+                print!("{:<5} {:<6}", question.name(), shape.name());
                 for n in self.sizes() {
-                    let of_shape = |row: &&Row| row.drawing.shape.name() == name;
-                    let cells = self.of(question, Sheet::Old).filter(of_shape);
-                    let cells = cells.filter(|row| row.drawing.n == n);
-                    let [least, middle, most] = spread(cells.map(|row| row.times.ours_by_before));
-                    print!(" {:>18}", format!("{middle:.2}, {least:.2} {most:.2}"));
+                    let drawing = Drawing { sheet, shape, n };
+                    let cells = self.of(question, sheet);
+                    let cells = cells.filter(|row| row.drawing == drawing);
+                    print!(" {:>18}", middle_of(cells.map(|row| by.ratio(&row.times))));
                 }
                 println!();
             }
         }
+    }
+
+    /// The shapes that a question was asked about.
+    fn shapes(&self, question: Question) -> Vec<Shape> {
+        let mut shapes = vec![];
+        for row in self.rows.iter().filter(|row| row.question == question) {
+            if !shapes.contains(&row.drawing.shape) {
+                shapes.push(row.drawing.shape);
+            }
+        }
+        shapes
+    }
+
+    /// How soon a check ends that is refused for row 1.
+    fn early(&self) {
+        let checks = self
+            .rows
+            .iter()
+            .filter(|row| row.question == Question::Check);
+        let checks = checks.filter(|row| row.drawing.n >= 64);
+        let [least, middle, most] = spread(checks.map(|row| row.times.early_by_ours));
+        println!(
+            "\ncheck, refused for row 1, from n = 64 on: {least:.2} to {most:.2} of a whole check, median {middle:.2}"
+        );
     }
 
     /// Whether all bars are met.
@@ -323,9 +382,9 @@ impl Report {
                 met &= self.held(question, sheet, question.yardsticks(sheet)[0]);
             }
         }
-        if before::ARCHIVE.is_some() {
-            for question in QUESTIONS {
-                met &= self.held(question, Sheet::Old, Yardstick::Before);
+        for sheet in SHEETS {
+            for question in QUESTIONS.into_iter().filter(|q| q.of_before()) {
+                met &= self.held(question, sheet, Yardstick::Before);
             }
         }
         let by_plain = |question, asked: &str, least: f64| {
@@ -390,6 +449,18 @@ fn spread(values: impl Iterator<Item = f64>) -> [f64; 3] {
     let least = values.iter().copied().fold(f64::NAN, f64::min);
     let most = values.iter().copied().fold(f64::NAN, f64::max);
     [least, median(values), most]
+}
+
+/// The median, and of several the least and the greatest.
+fn middle_of(values: impl Iterator<Item = f64>) -> String {
+    let values: Vec<f64> = values.collect();
+    let several = values.len() > 1;
+    let [least, middle, most] = spread(values.into_iter());
+    if several {
+        format!("{middle:.2}, {least:.2} {most:.2}")
+    } else {
+        format!("{middle:.2}")
+    }
 }
 
 /// Nothing where it is not a number.

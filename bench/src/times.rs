@@ -8,15 +8,18 @@ pub struct Times {
     pub hand: f64,
     pub form: f64,
     pub plain: f64,
+    pub build: f64,
     pub ours_by_before: f64,
     pub ours_by_hand: f64,
     pub ours_by_form: f64,
     pub plain_by_ours: f64,
+    pub ours_by_build: f64,
+    pub early_by_ours: f64,
 }
 
 impl Times {
-    /// Of the times of each repetition: ours, before, hand, form and plain.
-    pub fn of([ours, before, hand, form, plain]: [Vec<f64>; 5]) -> Times {
+    /// Of the times of each repetition: ours, before, hand, form, plain, build and early.
+    pub fn of([ours, before, hand, form, plain, build, early]: [Vec<f64>; 7]) -> Times {
         let ratio = |over: &[f64], under: &[f64]| {
             let both = over.iter().zip(under);
             median(both.map(|(over, under)| over / under).collect())
@@ -26,11 +29,14 @@ impl Times {
             ours_by_hand: ratio(&ours, &hand),
             ours_by_form: ratio(&ours, &form),
             plain_by_ours: ratio(&plain, &ours),
+            ours_by_build: ratio(&ours, &build),
+            early_by_ours: ratio(&early, &ours),
             ours: median(ours),
             before: median(before),
             hand: median(hand),
             form: median(form),
             plain: median(plain),
+            build: median(build),
         }
     }
 
@@ -42,6 +48,7 @@ impl Times {
             hand: self.hand / count,
             form: self.form / count,
             plain: self.plain / count,
+            build: self.build / count,
             ..self
         }
     }

@@ -1,10 +1,14 @@
-//! Shared by the tests: both readings of a call as one value that can be compared, and lines made from a seed.
+//! Shared by the tests: both readings of a call as one value that can be compared, lines made from a seed, and numbers
+//! to damage them with.
+
+use std::hint::black_box;
 
 use kneukelboom::lent::{self, line, word, Reply};
-use second::geometry::{Name, Point};
-use second::old;
+use kneukelboom::SHEET;
+use second::geometry::{plain_astray, plain_meet, plain_near, plain_side, Name, Point, Side};
 use second::tree::{self, Refusal};
 use second::walk::{self, Answer, Outcome, Tree};
+use second::{check, old};
 
 /// What a build or a widening says that wrote.
 pub const WRITTEN: Reply = Reply {
@@ -14,6 +18,12 @@ pub const WRITTEN: Reply = Reply {
     line: line::NO_LINE,
     place: 0,
 };
+
+/// What a check says that accepts: the same five zeros.
+pub const ACCEPTED: Reply = WRITTEN;
+
+/// The greatest allowance: it suffices for any two lines.
+pub const ENOUGH: u32 = u32::MAX;
 
 /// The second reading's outcome in the numbers of the proved library's reply.
 pub fn in_numbers(outcome: Outcome) -> Reply {
@@ -53,7 +63,7 @@ fn line_of(name: Option<Name>) -> u32 {
     }
 }
 
-fn written(said: Result<(), Refusal>) -> Reply {
+fn zeros_or_refused(said: Result<(), Refusal>) -> Reply {
     said.map_or_else(
         |refusal| in_numbers(Outcome::refused(refusal)),
         |()| WRITTEN,
@@ -64,7 +74,7 @@ fn written(said: Result<(), Refusal>) -> Reply {
 pub fn build(points: &[i64], table: &mut [i64]) -> Reply {
     let mut other = table.to_vec();
     let ours = lent::build(points, table);
-    let theirs = written(tree::build(Name::A, points, &mut other));
+    let theirs = zeros_or_refused(tree::build(Name::A, points, &mut other));
     assert_eq!(ours, theirs, "the build of {points:?}");
     assert_eq!(table, other, "the table of {points:?}");
     ours
@@ -74,14 +84,14 @@ pub fn build(points: &[i64], table: &mut [i64]) -> Reply {
 pub fn widen(old: &[i32], new: &mut [i64]) -> Reply {
     let mut other = new.to_vec();
     let ours = lent::widen(old, new);
-    let theirs = written(old::widen(old, &mut other));
+    let theirs = zeros_or_refused(old::widen(old, &mut other));
     assert_eq!(ours, theirs, "the widening of {old:?}");
     assert_eq!(new, other, "the widened numbers of {old:?}");
     ours
 }
 
 /// Points and a table, as both readings are lent them.
-#[derive(Clone, Debug)]
+#[derive(Clone, PartialEq, Eq, Debug)]
 pub struct Lent {
     pub points: Vec<i64>,
     pub table: Vec<i64>,
@@ -98,6 +108,15 @@ impl Lent {
         }
     }
 
+    /// Segments of a line of at least two points.
+    pub fn segments(&self) -> usize {
+        self.points.len() / 2 - 1
+    }
+
+    pub fn rows(&self) -> usize {
+        2 * self.segments() - 1
+    }
+
     fn tree(&self, name: Name) -> Tree<'_> {
         Tree {
             name,
@@ -105,6 +124,17 @@ impl Lent {
             table: &self.table,
         }
     }
+}
+
+/// Checks by both readings, which must say the same and leave all numbers as they are; gives the reply.
+pub fn check(a: &Lent) -> Reply {
+    let before = a.clone();
+    let ours = lent::check(&a.points, &a.table);
+    // The archive is lent them to read, but could write: they are read again, whatever the compiler takes for granted.
+    assert_eq!(black_box(a), &before, "a check wrote");
+    let theirs = zeros_or_refused(check::check(Name::A, &a.points, &a.table));
+    assert_eq!(ours, theirs, "the check of {a:?}");
+    ours
 }
 
 /// Asks both readings and compares; gives the reply.
@@ -146,6 +176,104 @@ pub fn agree(a: &Lent, b: &Lent, d: i64, allowance: u32) -> Reply {
         "AGREE {d} {allowance} of {a:?} and {b:?}"
     );
     ours
+}
+
+/// NEAR, IN, MEET and AGREE, with the greatest allowance. What is not refused must be plain geometry's answer.
+pub fn ask_plainly(a: &Lent, b: &Lent, z: Point, d: i64) -> [Reply; 4] {
+    let replies = [
+        near(a, z.x, z.y, d, ENOUGH),
+        inside(a, z.x, z.y, ENOUGH),
+        meet(a, b, ENOUGH),
+        agree(a, b, d, ENOUGH),
+    ];
+    let plain: [&dyn Fn() -> Answer; 4] = [
+        &|| yes_or_no(plain_near(&a.points, z, d)),
+        &|| side_of(plain_side(&a.points, z)),
+        &|| yes_or_no(plain_meet(&a.points, &b.points)),
+        &|| {
+            plain_astray(&a.points, &b.points, d)
+                .map_or(Answer::Yes, |(name, point)| Answer::NoAt(name, point))
+        },
+    ];
+    for (reply, plain) in replies.iter().zip(plain) {
+        if reply.word != word::REFUSED {
+            let visits = reply.visits;
+            let answer = plain();
+            let told = in_numbers(Outcome { answer, visits });
+            assert_eq!(*reply, told, "{z:?} {d} of {a:?} and {b:?}");
+        }
+    }
+    replies
+}
+
+fn yes_or_no(yes: bool) -> Answer {
+    if yes {
+        Answer::Yes
+    } else {
+        Answer::No
+    }
+}
+
+fn side_of(side: Side) -> Answer {
+    match side {
+        Side::Inside => Answer::Inside,
+        Side::Outside => Answer::Outside,
+        Side::On => Answer::On,
+    }
+}
+
+/// Lines of one to four segments, rings among them, small and over the whole sheet.
+pub fn small_lines() -> Vec<Lent> {
+    [
+        &[0, 0, 4, 3][..],
+        &[0, 0, 4, 3, 8, 0],
+        &[0, 0, 4, 0, 4, 4, 0, 0],
+        &[0, 0, 4, 0, 4, 4, 0, 4, 0, 0],
+        &[-SHEET, -SHEET, SHEET, SHEET, SHEET, -SHEET, -SHEET, SHEET],
+        &[-SHEET, -SHEET, SHEET, -SHEET, 0, SHEET, -SHEET, -SHEET],
+    ]
+    .into_iter()
+    .map(Lent::built)
+    .collect()
+}
+
+/// Bad and odd numbers for a place that has this one: small ones, the limits, where 32 and 64 bits end, and such as
+/// agree with it in some of their bits.
+pub fn odd_values(there: i64) -> [i64; 32] {
+    [
+        -1,
+        0,
+        1,
+        2,
+        3,
+        4,
+        -2,
+        7,
+        SHEET,
+        SHEET + 1,
+        -SHEET,
+        -SHEET - 1,
+        i64::MIN,
+        i64::MIN + 1,
+        i64::MAX,
+        1 << 31,
+        (1 << 31) - 1,
+        -(1 << 31),
+        -(1 << 31) - 1,
+        1 << 32,
+        -(1 << 32),
+        1 << 43,
+        1 << 62,
+        -(1 << 62),
+        there.wrapping_add(1),
+        there.wrapping_sub(1),
+        there.wrapping_add(1 << 31),
+        there.wrapping_add(1 << 32),
+        there.wrapping_sub(1 << 32),
+        there.wrapping_add(1 << 62),
+        there.wrapping_add(i64::MIN),
+        there.wrapping_neg(),
+    ]
 }
 
 /// Numbers from a seed (splitmix64).

@@ -2,67 +2,12 @@
 //! inner and the last row of a large one; rows exchanged, points moved off the sheet, strips wider than any line. Each
 //! answer, visit count and refusal is the second reading's.
 
-use compare::{agree, inside, meet, near, Dice, Lent};
-use kneukelboom::lent::word;
+use compare::{
+    agree, ask_plainly, inside, meet, near, odd_values, small_lines, Dice, Lent, ENOUGH,
+};
 use kneukelboom::{FARTHEST, ROW_WIDTH, SHEET};
 use second::generate::{asked_point, damage, distance, foreign, loosen, sound_line, stray, Random};
-use second::geometry::{all_points, plain_near, Point};
-
-const ENOUGH: u32 = u32::MAX;
-
-/// Bad and odd numbers for a place that has this one: small ones, the limits, where 32 and 64 bits end, and such as
-/// agree with it in some of their bits.
-fn values(there: i64) -> [i64; 32] {
-    [
-        -1,
-        0,
-        1,
-        2,
-        3,
-        4,
-        -2,
-        7,
-        SHEET,
-        SHEET + 1,
-        -SHEET,
-        -SHEET - 1,
-        i64::MIN,
-        i64::MIN + 1,
-        i64::MAX,
-        1 << 31,
-        (1 << 31) - 1,
-        -(1 << 31),
-        -(1 << 31) - 1,
-        1 << 32,
-        -(1 << 32),
-        1 << 43,
-        1 << 62,
-        -(1 << 62),
-        there.wrapping_add(1),
-        there.wrapping_sub(1),
-        there.wrapping_add(1 << 31),
-        there.wrapping_add(1 << 32),
-        there.wrapping_sub(1 << 32),
-        there.wrapping_add(1 << 62),
-        there.wrapping_add(i64::MIN),
-        there.wrapping_neg(),
-    ]
-}
-
-/// Lines of one to four segments, rings among them, small and over the whole sheet.
-fn small_lines() -> Vec<Lent> {
-    [
-        &[0, 0, 4, 3][..],
-        &[0, 0, 4, 3, 8, 0],
-        &[0, 0, 4, 0, 4, 4, 0, 0],
-        &[0, 0, 4, 0, 4, 4, 0, 4, 0, 0],
-        &[-SHEET, -SHEET, SHEET, SHEET, SHEET, -SHEET, -SHEET, SHEET],
-        &[-SHEET, -SHEET, SHEET, -SHEET, 0, SHEET, -SHEET, -SHEET],
-    ]
-    .into_iter()
-    .map(Lent::built)
-    .collect()
-}
+use second::geometry::{all_points, Point};
 
 fn ask_all(damaged: &Lent, sound: &Lent) {
     for allowance in [0, 1, 2, 3, 100] {
@@ -84,11 +29,11 @@ fn ask_all(damaged: &Lent, sound: &Lent) {
 }
 
 #[test]
-fn every_number_of_every_row_set_to_bad_and_odd_values() {
+fn every_number_of_every_row_set_to_bad_and_odd_odd_values() {
     let sound = Lent::built(&[1, 1, 3, 2, 6, 0]);
     for line in small_lines() {
         for k in 0..line.table.len() {
-            for value in values(line.table[k]) {
+            for value in odd_values(line.table[k]) {
                 let mut damaged = line.clone();
                 damaged.table[k] = value;
                 ask_all(&damaged, &sound);
@@ -107,7 +52,7 @@ fn every_number_of_the_first_an_inner_and_the_last_row_of_a_large_tree() {
         let first = line.table[ROW_WIDTH * row] as usize;
         let (x, y) = (line.points[2 * first], line.points[2 * first + 1]);
         for k in ROW_WIDTH * row..ROW_WIDTH * (row + 1) {
-            for value in values(line.table[k]) {
+            for value in odd_values(line.table[k]) {
                 let mut damaged = line.clone();
                 damaged.table[k] = value;
                 for d in [0, 1_000, FARTHEST] {
@@ -130,7 +75,7 @@ fn points_moved_after_the_build() {
     let sound = Lent::built(&[1, 1, 3, 2, 6, 0]);
     for line in small_lines() {
         for k in 0..line.points.len() {
-            for value in values(line.points[k]) {
+            for value in odd_values(line.points[k]) {
                 let mut damaged = line.clone();
                 damaged.points[k] = value;
                 ask_all(&damaged, &sound);
@@ -157,7 +102,7 @@ fn rows_of_other_nodes_and_numbers_at_random() {
             } else {
                 let column = dice.within(0, ROW_WIDTH as i64 - 1) as usize;
                 let number = &mut damaged.table[ROW_WIDTH * to + column];
-                *number = dice.one_of(&values(*number));
+                *number = dice.one_of(&odd_values(*number));
             }
         }
         ask_all(&damaged, &sound);
@@ -223,9 +168,6 @@ fn looser_tables_are_answered_as_plain_geometry_says() {
         ask_both(&mut random, a, b);
         let points: Vec<Point> = all_points(&a.points).collect();
         let (z, d) = (asked_point(&mut random, &points), random.between(0, SHEET));
-        let reply = near(a, z.x, z.y, d, ENOUGH);
-        if reply.word != word::REFUSED {
-            assert_eq!(reply.word == word::YES, plain_near(&a.points, z, d));
-        }
+        ask_plainly(a, b, z, d);
     }
 }

@@ -1,15 +1,13 @@
 //! The four questions on built tables: word, visits, refusal, line and place are those of the second reading, and a
 //! decided word is the plain geometry's.
 
-use compare::{agree, inside, meet, near, Dice, Lent};
+use compare::{agree, ask_plainly, inside, meet, near, Dice, Lent, ENOUGH};
 use kneukelboom::lent::word;
 use kneukelboom::{FARTHEST, SHEET};
 use second::generate::{asked_point, distance, sound_line, tight, Random};
 use second::geometry::{all_points, plain_astray, plain_meet, plain_near, plain_side};
-use second::geometry::{Name, Point, Side};
+use second::geometry::{Point, Side};
 use second::tree::OLD_SHEET;
-
-const ENOUGH: u32 = u32::MAX;
 
 fn allowances(exact: u32) -> [u32; 5] {
     [0, 1, exact.saturating_sub(1), exact, ENOUGH]
@@ -222,24 +220,6 @@ fn lines_of_every_shape_over_the_sheet_are_answered_as_plain_geometry_says() {
         let [a, b] = [(); 2].map(|()| Lent::built(&sound_line(&mut random)));
         let points: Vec<Point> = all_points(&a.points).collect();
         let (z, d) = (asked_point(&mut random, &points), distance(&mut random, 9));
-        let of_a = near(&a, z.x, z.y, d, ENOUGH);
-        if of_a.word != word::REFUSED {
-            assert_eq!(of_a.word == word::YES, plain_near(&a.points, z, d));
-        }
-        let side = inside(&a, z.x, z.y, ENOUGH);
-        if side.word != word::REFUSED {
-            assert_eq!(side.word, side_word(plain_side(&a.points, z)));
-        }
-        let shared = meet(&a, &b, ENOUGH).word == word::YES;
-        assert_eq!(shared, plain_meet(&a.points, &b.points));
-        let both = agree(&a, &b, d, ENOUGH);
-        if both.word != word::REFUSED {
-            let astray = plain_astray(&a.points, &b.points, d);
-            let named = astray.map_or((0, 0), |(name, at)| {
-                (if name == Name::A { 1 } else { 2 }, at as u64)
-            });
-            assert_eq!(both.word == word::YES, astray.is_none());
-            assert_eq!((both.line, both.place), named);
-        }
+        ask_plainly(&a, &b, z, d);
     }
 }

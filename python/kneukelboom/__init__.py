@@ -36,6 +36,9 @@ What is refused is a `Refusal`, a `ValueError` that prints as a sentence:
 Traceback (most recent call last):
     ...
 kneukelboom.Refusal: refused 5: points 1 and 2 of line A are equal
+
+`Line.with_table` takes a table that other software wrote, and checks it; `widen` takes points and tables that version 1
+of the library stored.
 """
 
 from __future__ import annotations
@@ -74,8 +77,11 @@ class Line:
     """A line through points (x, y), with its strip tree. It never changes.
 
     Coordinates are whole numbers (what is not is a `TypeError`). Refused are fewer than 2 or more than 4,097 points, a
-    coordinate off the sheet, and neighbours that are equal. Only lines that were built exist, so the questions refuse
-    no more than a distance (7), an asked point (8) or a line that is no ring (9).
+    coordinate off the sheet, and neighbours that are equal. Only lines whose table was built, or checked and accepted,
+    exist, so the questions refuse no more than a distance (7), an asked point (8) or a line that is no ring (9).
+
+    Lines are equal where their points are, whatever their tables: without an allowance they answer the same. The visits
+    can differ where a table was not built (`with_table`), for a walk follows the splits of its table.
 
     >>> line = Line([(0, 0), (4, 3), (8, 0)])
     >>> line
@@ -86,17 +92,16 @@ class Line:
     (True, False)
     """
 
-    __slots__ = ("_depth", "_lent", "_points", "_table")
+    __slots__ = ("_built", "_depth", "_lent", "_points", "_table")
+    _built: bool  # or else checked: the table is from elsewhere
     _depth: int  # of the tree, in levels; 0 until it is reckoned
     _lent: Tuple[Any, ...]  # points and table as the calls take them
 
     def __init__(self, points: Iterable[Point]) -> None:
-        # A line with one point too many is refused, whatever follows.
-        read = enumerate(itertools.islice(points, MOST_POINTS + 1))
-        self._build([number for index, point in read for number in _pair(point, "point", index)])
+        self._make(_coordinates(points), None)
 
     @classmethod
-    def from_numbers(cls, numbers: Iterable[SupportsIndex]) -> Line:
+    def from_numbers(cls, numbers: Iterable[SupportsIndex], table: Optional[Iterable[SupportsIndex]] = None) -> Line:
         """The same from coordinates x, y, x, y; an odd number of them is refused.
 
         >>> Line.from_numbers([0, 0, 4, 3]) == Line([(0, 0), (4, 3)])
@@ -105,19 +110,64 @@ class Line:
         Traceback (most recent call last):
             ...
         kneukelboom.Refusal: refused 1: line A has an odd number of coordinates
+
+        With the numbers of a table, row after row, it is checked as by `with_table`, and not built:
+
+        >>> Line.from_numbers([0, 0, 4, 3], [0, 1, -1, -5, 5, 0, 25, 0, 4, 0, 3]).table
+        ((0, 1, -1, -5, 5, 0, 25, 0, 4, 0, 3),)
         """
         line = cls.__new__(cls)
-        line._build([_whole(number, "coordinate", index) for index, number in enumerate(numbers)])
+        line._make([_whole(number, "coordinate", index) for index, number in enumerate(numbers)], table)
         return line
 
-    def _build(self, numbers: List[int]) -> None:
+    @classmethod
+    def with_table(cls, points: Iterable[Point], table: Iterable[Iterable[SupportsIndex]]) -> Line:
+        """A line through points (x, y) with a table that other software wrote: checked, and then asked as it is.
+
+        The table is rows of 11 numbers as `table` has them; rows past the 2n-1 that a line of n segments has are not
+        read. Refused are points that `Line` refuses, a table that is too short (6), a row that is not good for the
+        range of points that falls to it (21), and one whose strip or box leaves out a point of that range (22). What
+        does not fit 64 bits is a `ValueError`.
+
+        >>> square = [(0, 0), (4, 0), (4, 4), (0, 4), (0, 0)]
+        >>> table = [
+        ...     (0, 4, 1, 0, 4, 0, 4, 0, 4, 0, 4),  # it splits at point 1, where the builder splits at 2
+        ...     (0, 1, -1, 0, 0, 0, 16, 0, 4, 0, 0),
+        ...     (1, 4, 2, -16, 0, 0, 16, 0, 4, 0, 4),
+        ...     (1, 2, -1, 0, 0, 0, 16, 4, 4, 0, 4),
+        ...     (2, 4, 3, -16, 0, 0, 32, 0, 4, 0, 4),
+        ...     (2, 3, -1, 0, 0, 0, 16, 0, 4, 4, 4),
+        ...     (3, 4, -1, 0, 0, 0, 16, 0, 0, 0, 4),
+        ... ]
+        >>> line = Line.with_table(square, table)
+        >>> line == Line(square)
+        True
+        >>> print(line.near((2, 2), distance=2), Line(square).near((2, 2), distance=2), sep=", ")
+        yes (visits: 2), yes (visits: 3)
+
+        With the strip of row 2 too narrow for the points (4, 4) and (0, 4):
+
+        >>> table[2] = (1, 4, 2, -15, 0, 0, 16, 0, 4, 0, 4)
+        >>> Line.with_table(square, table)
+        Traceback (most recent call last):
+            ...
+        kneukelboom.Refusal: refused 22: row 2 of the table of line A leaves out a point of its run
+        """
+        line = cls.__new__(cls)
+        line._make(_coordinates(points), itertools.chain.from_iterable(map(_row, table, itertools.count())))
+        return line
+
+    def _make(self, numbers: List[int], table: Optional[Iterable[SupportsIndex]]) -> None:
+        """Of these coordinates, with its table built or, where one is given, checked."""
         # A line that is too short or too long is refused before its table is looked at: no need for the room.
         segments = len(numbers) // 2 - 1 if FEWEST_POINTS <= len(numbers) // 2 <= MOST_POINTS else 0
+        size = ROW_WIDTH * max(2 * segments - 1, 0)
+        self._built = table is None
         self._points = array("q", map(_held, numbers))
-        self._table = array("q", [0]) * (ROW_WIDTH * max(2 * segments - 1, 0))
+        self._table = array("q", [0]) * size if table is None else _wide(itertools.islice(table, size))
         self._lent = library.lent(self._points) + library.lent(self._table)
         self._depth = 0
-        library.ask("build", segments, lambda: segments, *self._lent)
+        library.ask("build" if self._built else "check", segments, lambda: segments, *self._lent)
 
     @property
     def points(self) -> Tuple[Tuple[int, int], ...]:
@@ -252,8 +302,9 @@ class Line:
         return f"<Line of {len(self)} points, ({x}, {y}) to ({u}, {v})>"
 
     def __reduce__(self) -> Tuple[Any, ...]:
-        # A copy is built anew: answers are only as right as a table that the builder wrote.
-        return type(self).from_numbers, (self._points.tolist(),)
+        # A copy is built anew, or its table checked anew: answers are only as right as the table.
+        kept = [self._points] if self._built else [self._points, self._table]
+        return type(self).from_numbers, tuple(numbers.tolist() for numbers in kept)
 
     def _levels(self) -> int:
         """How many levels the tree has. It is kept when it is known whole, for other threads may ask meanwhile."""
@@ -282,16 +333,36 @@ def widen(numbers: Iterable[SupportsIndex]) -> array[int]:
     >>> Line.from_numbers(widen(stored))
     <Line of 3 points, (0, 0) to (8, 0)>
     """
-    old = array("i", (_narrow(number, index) for index, number in enumerate(numbers)))
+    old = array("i", (_fitting(32, number, "number", index) for index, number in enumerate(numbers)))
     wide = array("q", [0]) * len(old)
     library.ask("widen", 0, lambda: 0, *library.lent(old), *library.lent(wide))
     return wide
 
 
-def _narrow(number: SupportsIndex, index: int) -> int:
-    whole = _whole(number, "number", index)
-    if not -(2**31) <= whole < 2**31:
-        raise ValueError(f"number {index} does not fit 32 bits: {whole}")
+def _coordinates(points: Iterable[Point]) -> List[int]:
+    # A line with one point too many is refused, whatever follows.
+    read = enumerate(itertools.islice(points, MOST_POINTS + 1))
+    return [number for index, point in read for number in _pair(point, "point", index)]
+
+
+def _wide(numbers: Iterable[SupportsIndex]) -> array[int]:
+    return array("q", (_fitting(64, number, "number", index, "of the table") for index, number in enumerate(numbers)))
+
+
+def _row(row: Iterable[SupportsIndex], index: int) -> List[int]:
+    try:
+        numbers = [operator.index(number) for number in row]
+    except TypeError:
+        numbers = []
+    if len(numbers) != ROW_WIDTH:
+        raise TypeError(f"row {index} of the table is no row of {ROW_WIDTH} whole numbers: {row!r}")
+    return numbers
+
+
+def _fitting(bits: int, number: SupportsIndex, *what: object) -> int:
+    whole = _whole(number, *what)
+    if not -(2 ** (bits - 1)) <= whole < 2 ** (bits - 1):
+        raise ValueError(f"{' '.join(map(str, what))} does not fit {bits} bits: {whole}")
     return whole
 
 

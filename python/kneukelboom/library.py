@@ -1,4 +1,4 @@
-"""The six calls of the proved library: the shared object, where it is found, and what C passes to it."""
+"""The seven calls of the proved library: the shared object, where it is found, and what C passes to it."""
 
 from __future__ import annotations
 
@@ -39,6 +39,7 @@ _line = _wide * 2  # its points, then its table
 PARAMETERS = {
     "build": _line,
     "widen": _old + _wide,
+    "check": _line,
     "near": _line + [ctypes.c_int64] * 3 + [ctypes.c_uint32],
     "inside": _line + [ctypes.c_int64] * 2 + [ctypes.c_uint32],
     "meet": _line * 2 + [ctypes.c_uint32],
@@ -86,7 +87,7 @@ def _load() -> Dict[str, Callable[..., Reply]]:
     except OSError as error:
         raise ImportError(f"{path} cannot be loaded: {error}. It is for x86-64 Linux.") from error
     except AttributeError as error:
-        raise ImportError(f"{path} is not of version {VERSION}: {error}. Make it again with `make`.") from error
+        raise ImportError(f"{path} lacks a call of version {VERSION}: {error}. Make it again with `make`.") from error
     for name, call in calls.items():
         call.argtypes, call.restype = PARAMETERS[name], Reply
     return calls

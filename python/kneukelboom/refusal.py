@@ -6,11 +6,11 @@ from typing import Optional
 
 
 class Refusal(ValueError):
-    """Why a line was not built, numbers were not widened or a question was not answered.
+    """Why a line was not built, a table not accepted, numbers not widened or a question not answered.
 
     Each number comes exactly when its reason is the first, in a fixed order, that holds. `line` is "A" (the line asked)
-    or "B" (the other), whichever is at fault, or None; `place` a point (4, 5, 8 of agree) or a row (10), counted
-    from 0, else 0; `visits` the visits made before.
+    or "B" (the other), whichever is at fault, or None; `place` a point (4, 5, 8 of agree) or a row (10, 21, 22),
+    counted from 0, else 0; `visits` the visits made before.
 
     >>> refusal = Refusal(number=4, line="A", place=1)
     >>> print(refusal)
@@ -41,4 +41,6 @@ class Refusal(ValueError):
             8: f"point {place} of {line} is off the sheet",
             9: f"{line} is no ring: it has fewer than 4 points, or does not end where it begins",
             10: f"row {place} of the table of {line} is bad (visit {self.visits})",
+            21: f"row {place} of the table of {line} is not good for its range",
+            22: f"row {place} of the table of {line} leaves out a point of its run",
         }.get(self.number, "no refusal of the library has this number")

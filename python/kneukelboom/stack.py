@@ -1,7 +1,8 @@
 """Room for the calls, which go as deep as a tree has levels.
 
 Nothing proves that a thread has stack enough, so a call that could take more than half of its thread's is made on a
-thread of its own. Ordinary trees are far from that: tens of levels for 4,097 points, where a comb has 4,096.
+thread of its own. Ordinary trees are far from that: tens of levels for 4,097 points, where a comb has 4,096, and other
+software's tables can have as many.
 """
 
 from __future__ import annotations
@@ -13,7 +14,7 @@ from typing import Callable, List, TypeVar
 Given = TypeVar("Given")
 
 #: The bytes of stack that a call takes for each level, as kneukelboom.h has them; to widen has none ..
-A_LEVEL = {"build": 96, "widen": 0, "near": 192, "inside": 192, "agree": 192, "meet": 144}
+A_LEVEL = {"build": 96, "widen": 0, "check": 96, "near": 192, "inside": 192, "agree": 192, "meet": 144}
 #: .. and the bytes of the call itself.
 ON_TOP = 256
 

@@ -162,7 +162,7 @@ class Sentences(unittest.TestCase):
     def test_refusals_have_the_stored_sentences(self):
         names, *rows = (row.split("\t") for row in (CASES / "sentences.tsv").read_text().splitlines())
         self.assertEqual(["number", "line", "place", "visits", "sentence"], names)
-        self.assertEqual(set(range(1, 11)), {int(row[0]) for row in rows})
+        self.assertEqual({*range(1, 11), 21, 22}, {int(row[0]) for row in rows})
         for number, line, place, visits, sentence in rows:
             refusal = Refusal(int(number), None if line == "-" else line, int(place), int(visits))
             self.assertEqual(sentence, str(refusal))

@@ -71,7 +71,7 @@ class Header(unittest.TestCase):
         levels = dict(stack.A_LEVEL)
         self.assertEqual(0, levels.pop("widen"))
         for name, own in levels.items():
-            macro = {"build": "BUILD", "meet": "MEET"}.get(name, "WALK")
+            macro = {"build": "BUILD", "check": "BUILD", "meet": "MEET"}.get(name, "WALK")
             figures = re.search(rf"STACK_{macro}\(segments\) \((\d+) \+ (\d+) \* \(segments\)\)", HEADER)
             self.assertEqual((stack.ON_TOP, own), tuple(map(int, figures.groups())))
 
@@ -82,7 +82,7 @@ class SharedObject(unittest.TestCase):
             with self.assertRaisesRegex(ImportError, "^/nowhere/libkneukelboom.so.2 cannot be loaded: "):
                 library._load()
         with mock.patch.dict(os.environ, KNEUKELBOOM_LIB="libc.so.6"):
-            with self.assertRaisesRegex(ImportError, "^libc.so.6 is not of version 2: "):
+            with self.assertRaisesRegex(ImportError, "^libc.so.6 lacks a call of version 2: "):
                 library._load()
 
     def test_one_that_is_missing_is_told_how_to_make(self):

@@ -38,9 +38,18 @@ class Lines(unittest.TestCase):
             with self.assertRaises(AttributeError):
                 setattr(L, name, ())
 
-    def test_copies_are_built_anew(self):
-        for made in copy.copy(L), copy.deepcopy(L), pickle.loads(pickle.dumps(L)):
-            self.assertEqual((L, L.table), (made, made.table))
+    def test_copies_are_built_or_checked_anew(self):
+        (first, *rest), wide = L.table, 10**15
+        other = Line.with_table(L, [first[:3] + (-wide, wide, -wide, wide) + first[7:], *rest])
+        self.assertNotEqual(L.table, other.table)
+        for line in L, other:
+            for made in copy.copy(line), copy.deepcopy(line), pickle.loads(pickle.dumps(line)):
+                self.assertEqual((line, line.table), (made, made.table))
+
+    def test_lines_with_other_tables_are_equal(self):
+        other = Line.with_table(L, [(*L.table[0][:4], 25, *L.table[0][5:]), *L.table[1:]])
+        self.assertNotEqual(L.table, other.table)
+        self.assertEqual({L}, {L, other})
 
     def test_whole_numbers_alone(self):
         for points in [(0, 0), (1.0, 2)], [(0, 0), ("1", 2)], [(0, 0), (1, None)], [(0, 0), (1, 2, 3)], [(0, 0), 5], 5:
@@ -51,6 +60,18 @@ class Lines(unittest.TestCase):
         self.assertRaises(TypeError, L.agrees, L, 2.0)
         self.assertEqual(L, Line([(Index(0), Index(0)), (4, 3), (Index(8), 0)]))
         self.assertTrue(L.near((Index(4), Index(5)), Index(2), Index(9)))
+
+    def test_a_table_is_whole_numbers_in_rows_of_11(self):
+        for wrong in L.table[0][:10], L.table[0] + (0,), L.table[0][:10] + (3.0,), "0 2 1 0 24 0", 7, None, ():
+            with self.assertRaisesRegex(TypeError, "^row 1 of the table is no row of 11 whole numbers: "):
+                Line.with_table(L, [L.table[0], wrong, L.table[2]])
+        numbers = list(itertools.chain(*L.table))
+        with self.assertRaisesRegex(TypeError, "^number 4 of the table is no whole number: 24.0$"):
+            Line.from_numbers(itertools.chain(*L), [*numbers[:4], 24.0, *numbers[5:]])
+        for past in 2**63, -(2**63) - 1:
+            with self.assertRaisesRegex(ValueError, f"^number 4 of the table does not fit 64 bits: {past}$"):
+                Line.with_table(L, [(*L.table[0][:4], past, *L.table[0][5:]), *L.table[1:]])
+        self.assertEqual(L.table, Line.with_table(L, [map(Index, row) for row in L.table]).table)
 
     def test_a_point_that_is_none_is_named(self):
         with self.assertRaisesRegex(TypeError, r"^point 1 is no pair of whole numbers: \(1\.5, 2\)$"):

@@ -1,4 +1,4 @@
-//! The only unsafe code of this crate: the six functions of the proved archive, each behind a safe one, and what is
+//! The only unsafe code of this crate: the seven functions of the proved archive, each behind a safe one, and what is
 //! to be known of a thread's stack.
 //!
 //! Why the calls are sound:
@@ -29,6 +29,14 @@ extern "C" {
     #[link_name = "kneukelboom_widen_v2"]
     fn kneukelboom_widen(old: *const i32, old_len: usize, wide: *mut i64, wide_len: usize)
         -> Reply;
+
+    #[link_name = "kneukelboom_check_v2"]
+    fn kneukelboom_check(
+        points: *const i64,
+        points_len: usize,
+        table: *const i64,
+        table_len: usize,
+    ) -> Reply;
 
     #[link_name = "kneukelboom_near_v2"]
     fn kneukelboom_near(
@@ -98,6 +106,12 @@ pub fn build(points: &[i64], table: &mut [i64]) -> Reply {
 pub fn widen(old: &[i32], wide: &mut [i64]) -> Reply {
     // SAFETY: slices, and one of them `&mut`: see the top of this file.
     unsafe { kneukelboom_widen(old.as_ptr(), old.len(), wide.as_mut_ptr(), wide.len()) }
+}
+
+#[inline]
+pub fn check(points: &[i64], table: &[i64]) -> Reply {
+    // SAFETY: slices, only read: see the top of this file.
+    unsafe { kneukelboom_check(points.as_ptr(), points.len(), table.as_ptr(), table.len()) }
 }
 
 #[inline]

@@ -4,9 +4,9 @@
 //! every input: damaged or foreign tables get refusal 10 where a row that is read is bad. [`crate::Line`] is
 //! the same with vectors of its own. [`widen`] takes points and tables that were stored as 32-bit numbers.
 //!
-//! The answers are plain geometry's over a table that [`build`] wrote for these points. A table from elsewhere
-//! whose rows look good, but whose strips or boxes leave points out, is not found out, and a no or an outside
-//! over it can be false.
+//! The answers are plain geometry's over a table that [`build`] wrote, or that [`check`] accepted, for these points,
+//! and that nobody changed since. No question finds out a table from elsewhere whose rows look good, but whose strips
+//! or boxes leave points out, and a no or an outside over it can be false: check it first.
 //!
 //! How deep a lent table goes is not known, so room on the stack is asked for the deepest that its line can have:
 //! [Threads and stack](crate#threads-and-stack).
@@ -34,6 +34,8 @@ use crate::{ffi, room, ROW_WIDTH};
 pub mod word {
     /// `build`: the table is written; `widen`: the numbers are.
     pub const BUILT: u32 = 0;
+    /// `check`: the table is sound for these points.
+    pub const ACCEPTED: u32 = 0;
     /// `near`, `meet`, `agree`.
     pub const YES: u32 = 1;
     /// `near`, `meet`, `agree`.
@@ -108,6 +110,42 @@ pub fn build(points: &[i64], table: &mut [i64]) -> Reply {
 #[inline]
 pub fn widen(old: &[i32], wide: &mut [i64]) -> Reply {
     ffi::widen(old, wide)
+}
+
+/// Is a table sound for these points, whoever wrote it? [`accepted`](Reply::accepted), or refused by the first fault.
+///
+/// Refusals 1 to 6 come first, as of [`build`]; then each row in the table's order: 21 where it is not good for the
+/// range of points that falls to it, 22 where its strip or box leaves out a point of that range. A split may be any
+/// inner point; a strip or box may be wider than its points need, a box up to the sheet's edge. Numbers past the rows
+/// are not looked at.
+///
+/// ```
+/// use kneukelboom::{lent, Answer, Refusal};
+///
+/// let points = [0, 0, 4, 3, 8, 0];
+/// let mut table = [
+///     0, 2, 1, -1, 24, 0, 64, 0, 9, 0, 3, // a strip and a box that are wider than built ones
+///     0, 1, -1, 0, 0, 0, 25, 0, 4, 0, 3,
+///     1, 2, -1, 0, 0, 0, 25, 4, 8, 0, 3,
+/// ];
+/// lent::check(&points, &table).accepted()?;
+/// let near = lent::near(&points, &table, 4, 5, 2, 10).answer()?;
+/// assert_eq!(near, Answer::Yes { visits: 2 });
+///
+/// table[4] = 23; // the strip leaves out (4, 3): the answer is false, and the checker tells
+/// let near = lent::near(&points, &table, 4, 5, 2, 10).answer()?;
+/// assert_eq!(near, Answer::No { visits: 1 });
+/// let refusal = lent::check(&points, &table).accepted().unwrap_err();
+/// assert_eq!((refusal.number, refusal.place), (Refusal::POINT_LEFT_OUT, 0));
+/// # Ok::<(), kneukelboom::Refusal>(())
+/// ```
+///
+/// # Panics
+/// If a thread is needed and cannot be started: [Threads and stack](crate#threads-and-stack).
+#[inline]
+pub fn check(points: &[i64], table: &[i64]) -> Reply {
+    let need = room::build(levels(points));
+    room::with!(need, ffi::check(points, table))
 }
 
 /// Is (x, y) within the distance of some segment of the line?
@@ -194,6 +232,17 @@ impl Reply {
         match self.decided()? {
             word::BUILT => Ok(()),
             other => unreachable!("build and widen do not say word {other}"),
+        }
+    }
+
+    /// Of [`check`].
+    ///
+    /// # Panics
+    /// If this is the reply of a question.
+    pub fn accepted(self) -> Result<(), Refusal> {
+        match self.decided()? {
+            word::ACCEPTED => Ok(()),
+            other => unreachable!("check does not say word {other}"),
         }
     }
 

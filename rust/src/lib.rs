@@ -35,8 +35,9 @@
 //! # Ok::<(), kneukelboom::Refusal>(())
 //! ```
 //!
-//! [`lent`] has the same calls over slices that the caller lends: no heap, nothing copied. [`widen`] takes points and
-//! tables that version 1 of the library stored, in 32-bit numbers.
+//! [`lent`] has the same calls over slices that the caller lends: no heap, nothing copied. [`Line::with_table`] takes a
+//! table that other software wrote, and checks it. [`widen`] takes points and tables that version 1 of the library
+//! stored, in 32-bit numbers.
 //!
 //! # Threads and stack
 //!
@@ -45,9 +46,10 @@
 //! and joined within the call. The answer is the same, some tens of microseconds later. A call that needs a thread
 //! which cannot be started panics.
 //!
-//! The need goes by the levels of the tree. Those of a [`Line`] are counted when it is built: the tree of a survey has
-//! some tens, and its questions need some kilobytes; combs and spirals of 4,097 points can have 4,096, and need up to
-//! some megabytes. Building, and all of [`lent`], reckon with a level for each point. The README has the figures.
+//! The need goes by the levels of the tree. Those of a [`Line`] are counted when it is built or its table is accepted:
+//! the tree of a survey has some tens, and its questions need some kilobytes; combs and spirals of 4,097 points, and
+//! whatever other software splits next to an end, can have 4,096, and need up to some megabytes. Building, checking,
+//! and all of [`lent`], reckon with a level for each point. The README has the figures.
 //!
 //! Of the running thread's stack an eighth, and at least 16 KB, is left free. On a stack that is not the thread's own
 //! (a coroutine's) nothing is known of the room, and every call is made on a thread of its own. To start that takes
@@ -96,9 +98,10 @@ pub const ARCHIVE: &str = env!("KNEUKELBOOM_ARCHIVE");
 
 /// A line with its strip tree.
 ///
-/// Only lines that were built exist, so the questions refuse no more than a distance (7), an asked point (8)
-/// or a line that is no ring (9). Lines are equal, and hash the same, where their points are; the tree follows from
-/// them.
+/// Only lines whose table was built, or checked and accepted, exist, so the questions refuse no more than a distance
+/// (7), an asked point (8) or a line that is no ring (9). Lines are equal, and hash the same, where their points are,
+/// whatever their tables: with enough visits allowed, they answer the same. The visits can differ where a table was not
+/// built, for a walk follows the splits of its table.
 #[derive(Clone)]
 pub struct Line {
     /// x, y, x, y
@@ -165,12 +168,56 @@ impl Line {
         let most = lent::table_len(2 * MOST_POINTS);
         let mut table = vec![0; lent::table_len(points.len()).min(most)];
         lent::build(&points, &mut table).built()?;
+        Ok(Line::sound(points, table))
+    }
+
+    /// A line from coordinates x, y, x, y and a table that other software wrote, or that was stored: checked, and then
+    /// asked as it is. The vectors are kept, not copied; numbers past the table's rows are dropped.
+    ///
+    /// Refused are points as by [`from_numbers`](Line::from_numbers), a table that is too short (6), a row that is not
+    /// good for the range of points that falls to it (21), and one whose strip or box leaves out a point of that range
+    /// (22). [`lent::check`] checks alone, and leaves points and table where they are.
+    ///
+    /// ```
+    /// use kneukelboom::{Line, Side};
+    ///
+    /// let square = vec![0, 0, 4, 0, 4, 4, 0, 4, 0, 0];
+    /// let mut table = vec![
+    ///     0, 4, 1, 0, 4, 0, 4, 0, 4, 0, 4, // it splits at point 1, where the builder splits at 2
+    ///     0, 1, -1, 0, 0, 0, 16, 0, 4, 0, 0,
+    ///     1, 4, 2, -16, 0, 0, 16, 0, 4, 0, 4,
+    ///     1, 2, -1, 0, 0, 0, 16, 4, 4, 0, 4,
+    ///     2, 4, 3, -16, 0, 0, 32, 0, 4, 0, 4,
+    ///     2, 3, -1, 0, 0, 0, 16, 0, 4, 4, 4,
+    ///     3, 4, -1, 0, 0, 0, 16, 0, 0, 0, 4,
+    /// ];
+    /// let line = Line::with_table(square.clone(), table.clone())?;
+    /// assert_eq!(line, Line::from_numbers(square.clone())?);
+    /// assert_eq!(line.inside((2, 4), 9)?, Side::On { visits: 6 });
+    ///
+    /// table[25] = -15; // the strip of row 2 is too narrow for the points (4, 4) and (0, 4)
+    /// let refusal = Line::with_table(square, table).unwrap_err();
+    /// let sentence = "refused 22: row 2 of the table of line A leaves out a point of its run";
+    /// assert_eq!(refusal.to_string(), sentence);
+    /// # Ok::<(), kneukelboom::Refusal>(())
+    /// ```
+    ///
+    /// # Panics
+    /// If a thread is needed and cannot be started: [Threads and stack](crate#threads-and-stack).
+    pub fn with_table(points: Vec<i64>, mut table: Vec<i64>) -> Result<Line, Refusal> {
+        lent::check(&points, &table).accepted()?;
+        table.truncate(lent::table_len(points.len()));
+        Ok(Line::sound(points, table))
+    }
+
+    /// Of points and just the rows of a table that was built or accepted for them.
+    fn sound(points: Vec<i64>, table: Vec<i64>) -> Line {
         let levels = levels(&table);
-        Ok(Line {
+        Line {
             points,
             table,
             levels,
-        })
+        }
     }
 
     /// The coordinates, x, y, x, y.
@@ -405,7 +452,8 @@ pub fn widen(old: &[i32]) -> Vec<i64> {
     wide
 }
 
-/// The levels of a built table's tree. Rows stand in preorder, a node before its halves, and a leaf's split is -1.
+/// The levels of the tree of a table that was built or accepted. In these rows stand in preorder, a node before its
+/// halves, and a leaf's split is -1, which no other split is; of other tables nothing is known.
 fn levels(table: &[i64]) -> usize {
     let mut due = vec![1];
     let mut deepest = 0;

@@ -21,8 +21,8 @@ impl fmt::Display for Name {
     }
 }
 
-/// Why a build, a widening or a question was refused. Each number comes exactly when its reason is the first, in a
-/// fixed order, that holds. Its constants name the numbers, in the words of `kneukelboom.h`.
+/// Why a build, a widening, a check or a question was refused. Each number comes exactly when its reason is the first,
+/// in a fixed order, that holds. Its constants name the numbers, in the words of `kneukelboom.h`.
 ///
 /// ```
 /// use kneukelboom::{Line, Refusal};
@@ -33,11 +33,11 @@ impl fmt::Display for Name {
 /// ```
 #[derive(Clone, Copy, PartialEq, Eq, Hash, Debug)]
 pub struct Refusal {
-    /// 1 to 10.
+    /// 1 to 10, 21 or 22.
     pub number: u32,
     /// The line whose points or table are at fault, where one is.
     pub line: Option<Name>,
-    /// A point (4, 5, 8 in agree) or a row (10), counted from 0; else 0.
+    /// A point (4, 5, 8 in agree) or a row (10, 21, 22), counted from 0; else 0.
     pub place: usize,
     /// The visits made before.
     pub visits: u32,
@@ -50,9 +50,9 @@ impl Refusal {
     pub const TOO_FEW_POINTS: u32 = 2;
     /// More than 4,097 points.
     pub const TOO_MANY_POINTS: u32 = 3;
-    /// Building: a coordinate off the sheet.
+    /// Building, checking: a coordinate off the sheet.
     pub const POINT_OFF_SHEET: u32 = 4;
-    /// Building: two neighbours that are equal.
+    /// Building, checking: two neighbours that are equal.
     pub const EQUAL_NEIGHBOURS: u32 = 5;
     /// A table that is too short for its points, or a list that is shorter than the one to widen.
     pub const SHORT_TABLE: u32 = 6;
@@ -64,6 +64,10 @@ impl Refusal {
     pub const NO_RING: u32 = 9;
     /// A bad row, read at a visit: the table is not this line's.
     pub const BAD_ROW: u32 = 10;
+    /// Checking: a row that is not good for the range of points that falls to it.
+    pub const ROW_NOT_GOOD: u32 = 21;
+    /// Checking: a good row whose strip or box leaves out a point of its run.
+    pub const POINT_LEFT_OUT: u32 = 22;
 }
 
 impl fmt::Display for Refusal {
@@ -105,6 +109,14 @@ impl fmt::Display for Refusal {
             (Refusal::BAD_ROW, Some(line)) => write!(
                 f,
                 "row {place} of the table of {line} is bad (visit {visits})"
+            ),
+            (Refusal::ROW_NOT_GOOD, Some(line)) => write!(
+                f,
+                "row {place} of the table of {line} is not good for its range"
+            ),
+            (Refusal::POINT_LEFT_OUT, Some(line)) => write!(
+                f,
+                "row {place} of the table of {line} leaves out a point of its run"
             ),
             (_, Some(line)) => write!(f, "place {place} of {line}"),
             (_, None) => write!(f, "place {place}"),

@@ -1,8 +1,8 @@
 //! Room on the stack: a call that could need more than its thread has left runs on a thread of its own.
 //!
-//! The builder and the walks of the archive call themselves, once for each level of a tree, so what a call needs
-//! is known before it is made. Nothing proves that a stack has it; this file sees to it. The same code of the archive
-//! runs either way, only on another stack.
+//! The builder, the checker and the walks of the archive call themselves, once for each level of a tree, so what a call
+//! needs is known before it is made. Nothing proves that a stack has it; this file sees to it. The same code of the
+//! archive runs either way, only on another stack.
 
 use std::cell::Cell;
 use std::panic::resume_unwind;
@@ -12,7 +12,8 @@ use crate::ffi::{self, stack_pointer};
 use crate::lent::Reply;
 use crate::MOST_POINTS;
 
-/// The bytes of stack that building a tree of so many levels takes, as `KNEUKELBOOM_STACK_BUILD` of the header has it.
+/// The bytes of stack that building a tree of so many levels takes, as `KNEUKELBOOM_STACK_BUILD` of the header has it;
+/// checking one takes no more.
 pub const fn build(levels: usize) -> usize {
     256 + 96 * levels
 }
@@ -243,6 +244,9 @@ mod tests {
         let (p, q) = (&flat_ring(0), &flat_ring(9));
         for split in [left, right] {
             let t = &table_without_end(SEGMENTS + 1, split);
+            with_no_more_than_needed(build(SEGMENTS), || {
+                ffi::check(p, t).accepted().unwrap();
+            });
             with_no_more_than_needed(walk(SEGMENTS), || {
                 let near = ffi::near(p, t, 0, 16_000, 0, u32::MAX);
                 let inside = ffi::inside(p, t, 0, 16_000, u32::MAX);

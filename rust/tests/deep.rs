@@ -126,6 +126,60 @@ fn deep_lent_lines_are_built() {
     }
 }
 
+/// A straight line and a ring, whose built trees have few levels, with tables of as many levels as there are segments.
+#[test]
+fn deep_tables_from_elsewhere_are_checked_and_asked() {
+    let straight = numbers(&Vec::from_iter((0..=SEGMENTS as i64).map(|x| (x, 0))));
+    let ring = flat_ring(0);
+    for split in [left, right] {
+        let table = table_without_end(SEGMENTS + 1, split);
+        assert_eq!(levels(&table), SEGMENTS);
+        let foreign = |points: &Vec<i64>| {
+            let with_table = || Line::with_table(points.clone(), table.clone()).unwrap();
+            the_same_on_each_stack(with_table)
+        };
+        let (straight, ring) = (&foreign(&straight), &foreign(&ring));
+        let near = || straight.near((2_048, 9), 8, 9_999).unwrap();
+        let visits = 2 * SEGMENTS as u32 - 1;
+        assert_eq!(the_same_on_each_stack(near), Answer::No { visits });
+        let inside = || ring.inside((0, 0), 9_999).unwrap();
+        assert_eq!(the_same_on_each_stack(inside), Side::Outside { visits });
+        let meets = || straight.meets(ring, 100_000).unwrap().decided();
+        assert_eq!(the_same_on_each_stack(meets), None);
+        let agrees = || straight.agrees(straight, 0, 100_000).unwrap().decided();
+        assert_eq!(the_same_on_each_stack(agrees), None);
+    }
+}
+
+#[test]
+fn a_deep_comb_answers_the_same_over_another_table() {
+    let built = Line::new(&comb(0)).unwrap();
+    for split in [left, right] {
+        let table = table_without_end(SEGMENTS + 1, split);
+        let other = &Line::with_table(built.points().to_vec(), table).unwrap();
+        for (point, distance) in [((0, 0), 0), ((2_048, 3_712), 5), ((-16_000, 16_000), 9)] {
+            let near = |line: &Line| line.near(point, distance, 9_999).unwrap().decided();
+            assert_eq!(the_same_on_each_stack(|| near(other)), near(&built));
+        }
+    }
+}
+
+#[test]
+fn the_last_row_of_a_deep_table_is_checked() {
+    let points = numbers(&comb(0));
+    let last_row = 2 * SEGMENTS - 2;
+    for split in [left, right] {
+        // Its split, and where its box ends.
+        for (column, refused) in [(2, 21), (8, 22)] {
+            let mut table = table_without_end(SEGMENTS + 1, split);
+            table[ROW_WIDTH * last_row + column] = 0;
+            let check = || lent::check(&points, &table).accepted();
+            let refusal = the_same_on_each_stack(check).unwrap_err();
+            assert_eq!((refusal.number, refusal.place), (refused, last_row));
+        }
+    }
+}
+
 #[test]
 fn the_deepest_lent_tables_are_walked() {
     let (low, high) = (flat_ring(0), flat_ring(9));

@@ -1,4 +1,4 @@
-//! Three texts declare the same six functions and one struct: the proved source
+//! Three texts declare the same seven functions and one struct: the proved source
 //! `crates/kneukelboom_c/src/lib.rt`, the C header `include/kneukelboom.h`, and this crate's `src/ffi.rs` and
 //! `src/lent.rs`. Each is read here into an `Interface` in C's words, and any difference in a name, an order or a
 //! type fails. The self-test alters each text in every way that matters and demands that it is found out.
@@ -370,8 +370,8 @@ fn rust_is_the_header() {
     let (c, own) = (header(&header_text()).unwrap(), rust(&rust_text()).unwrap());
     assert_eq!(c, own, "\nthe header:\n{c}\nRust:\n{own}");
     let names: Vec<&str> = own.functions.iter().map(|f| f.name.as_str()).collect();
-    let six = ["agree", "build", "inside", "meet", "near", "widen"];
-    assert_eq!(names, six.map(|name| format!("kneukelboom_{name}")));
+    let seven = ["agree", "build", "check", "inside", "meet", "near", "widen"];
+    assert_eq!(names, seven.map(|name| format!("kneukelboom_{name}")));
 }
 
 #[test]
@@ -379,6 +379,7 @@ fn numbers_are_the_headers() {
     use kneukelboom::lent::{line, word};
     for (name, number) in [
         ("BUILT", word::BUILT),
+        ("ACCEPTED", word::ACCEPTED),
         ("YES", word::YES),
         ("NO", word::NO),
         ("INSIDE", word::INSIDE),
@@ -399,6 +400,8 @@ fn numbers_are_the_headers() {
         ("REFUSED_ASKED_OFF_SHEET", Refusal::ASKED_OFF_SHEET),
         ("REFUSED_NO_RING", Refusal::NO_RING),
         ("REFUSED_BAD_ROW", Refusal::BAD_ROW),
+        ("REFUSED_ROW_NOT_GOOD", Refusal::ROW_NOT_GOOD),
+        ("REFUSED_POINT_LEFT_OUT", Refusal::POINT_LEFT_OUT),
     ] {
         assert_eq!(
             header_number(&format!("KNEUKELBOOM_{name}")),
@@ -490,6 +493,9 @@ pub extern "C" fn kneukelboom_widen_v2(old: &[i32], new: &mut [i64]) -> Reply {
 }
 
 #[no_mangle]
+pub extern "C" fn kneukelboom_check_v2(points: &[i64], table: &[i64]) -> Reply { told(points) }
+
+#[no_mangle]
 pub extern "C" fn kneukelboom_near_v2(
     points: &[i64], table: &[i64], x: i64, y: i64, distance: i64, allowance: u32) -> Reply {
     told(points, table)
@@ -555,6 +561,14 @@ fn altered_rattle_is_found_out() {
             (
                 "old: &[i32], new: &mut [i64]",
                 "new: &mut [i64], old: &[i32]",
+            ),
+            (
+                "check_v2(points: &[i64], table: &[i64])",
+                "check_v2(points: &[i64], table: &mut [i64])",
+            ),
+            (
+                "check_v2(points: &[i64], table: &[i64])",
+                "check_v2(points: &[i64], table: &[i64], allowance: u32)",
             ),
             ("distance: i64, ", ""),
             ("kneukelboom_meet_v2", "kneukelboom_meets_v2"),
@@ -623,6 +637,10 @@ fn altered_header_is_found_out() {
             ("const int32_t *old,", "int32_t *old,"),
             ("int64_t *wide,", "int32_t *wide,"),
             ("int64_t *wide,", "const int64_t *wide,"),
+            (
+                "#define kneukelboom_check KNEUKELBOOM_SYMBOL(kneukelboom_check_v,",
+                "#define kneukelboom_check KNEUKELBOOM_SYMBOL(kneukelboom_build_v,",
+            ),
             ("    uint32_t line; ", "    uint64_t line; "),
             ("    uint64_t place; ", "    /* gone */ "),
             ("    uint32_t word; ", "    uint32_t first; uint32_t word; "),
@@ -657,6 +675,7 @@ fn altered_rust_is_found_out() {
                 "points_len: usize,\n        table",
                 "points_len: u32,\n        table",
             ),
+            ("\"kneukelboom_check_v2\"", "\"kneukelboom_build_v2\""),
             ("fn kneukelboom_meet(", "fn kneukelboom_meets("),
             ("\"kneukelboom_meet_v2\"", "\"kneukelboom_meet_v3\""),
             ("\"kneukelboom_meet_v2\"", "\"kneukelboom_near_v2\""),

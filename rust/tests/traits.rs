@@ -18,6 +18,19 @@ fn lines_are_equal_and_hash_the_same_by_their_points() {
     assert_eq!(register.len(), 3);
 }
 
+/// A strip that is wider than the built one, in a table from elsewhere.
+#[test]
+fn lines_with_other_tables_are_equal() {
+    let built = Line::new(&L).unwrap();
+    let mut table = built.table().to_vec();
+    table[4] += 1;
+    let other = Line::with_table(built.points().to_vec(), table).unwrap();
+    assert_ne!(other.table(), built.table());
+    assert_eq!(other, built);
+    assert_eq!(HashSet::from([built, other.clone()]).len(), 1);
+    assert_eq!(other.clone().table(), other.table());
+}
+
 #[test]
 fn a_line_comes_from_slices_vectors_arrays_and_iterators() {
     let line = Line::new(&L).unwrap();

@@ -8,8 +8,8 @@
 //!
 //! Refusals that come through the program: 2, 4, 5, 7, 8, 9, 12 and 13. Those that cannot:
 //! 1 (the store hands over whole points), 3 (a line of 258 points is 13 long before), 6 (the
-//! program's tables have room for 257 points), 10 (it reads only tables it has just built), and 8
-//! in AGREE (a point off the sheet is 4 when its line is built).
+//! program's tables have room for 257 points), 10 (it reads only tables it has just built), 8 in
+//! AGREE (a point off the sheet is 4 when its line is built), and 21 and 22 (no record asks the checker).
 
 mod asked;
 mod damage;
@@ -26,9 +26,9 @@ use crate::walk::Answer;
 use shapes::{companion, shaped, SHAPES};
 
 pub use asked::{asked_point, distance};
-pub use damage::{damage, foreign, loosen, stray};
+pub use damage::{damage, damage_at, foreign, foreign_table, loosen, stray, Damage};
 pub use random::Random;
-pub use shapes::sound_line;
+pub use shapes::{comb, sound_line};
 pub use tight::{tight, Tight};
 
 /// Writes a question file with `count` questions. Files of odd seeds lack their last line feed.

@@ -208,34 +208,52 @@ pub(crate) fn grown(
     limit: i64,
     room: usize,
 ) -> Result<Vec<i64>, Refusal> {
-    check_points(name, points)?;
-    check_places(name, points, limit)?;
-    check_room(name, points, room)?;
-    let mut table = vec![0; numbers(points)];
-    grow(points, 0, &mut table);
-    Ok(table)
+    check_build(name, points, limit, room)?;
+    Ok(grow(points, |_, _, farthest| farthest))
 }
 
-/// Writes the rows of one node and of all below it. `run` is the part of the line that the node
-/// covers, `first` the index of its first point in the line, `table` just the rows of the subtree.
-fn grow(run: &[i64], first: usize, table: &mut [i64]) {
-    let segments = run.len() / 2 - 1;
-    let (extents, split) = measure(run);
-    let (row, below) = table.split_at_mut(ROW);
-    row[0] = first as i64;
-    row[1] = (first + segments) as i64;
-    row[2] = split.map_or(-1, |inner| (first + inner) as i64);
-    let spans = [extents.c, extents.t, extents.x, extents.y];
-    for (pair, span) in row[3..].chunks_exact_mut(2).zip(spans) {
-        pair[0] = span.least;
-        pair[1] = span.greatest;
+/// Refusals 1 to 6, for a line on a sheet of that limit and a table of that many numbers.
+pub(crate) fn check_build(
+    name: Name,
+    points: &[i64],
+    limit: i64,
+    room: usize,
+) -> Result<(), Refusal> {
+    check_points(name, points)?;
+    check_places(name, points, limit)?;
+    check_room(name, points, room)
+}
+
+/// The rows of a line, in preorder. `choose` says where a node splits: it is handed the first and the
+/// last of its points, and the one at which the rules split it.
+pub(crate) fn grow(
+    points: &[i64],
+    mut choose: impl FnMut(usize, usize, usize) -> usize,
+) -> Vec<i64> {
+    let mut table = Vec::with_capacity(numbers(points));
+    // Nodes that are due, the next one on top. A tree can have 4,096 levels: no calls that deep.
+    let mut due = vec![(0, points.len() / 2 - 1)];
+    while let Some((first, last)) = due.pop() {
+        let (extents, inner) = measure(&points[2 * first..2 * last + 2]);
+        let split = inner.map(|inner| choose(first, last, first + inner));
+        table.extend(row(first, last, split, extents));
+        if let Some(split) = split {
+            // Both halves hold the split point.
+            due.extend([(split, last), (first, split)]);
+        }
     }
-    if let Some(inner) = split {
-        let (left, right) = below.split_at_mut(ROW * rows(inner));
-        // Both halves hold the split point.
-        grow(&run[..2 * inner + 2], first, left);
-        grow(&run[2 * inner..], first + inner, right);
-    }
+    table
+}
+
+/// The row of a node; a leaf has no split.
+fn row(first: usize, last: usize, split: Option<usize>, extents: Extents) -> [i64; ROW] {
+    let Extents { c, t, x, y } = extents;
+    let spans = [c, t, x, y].map(|span| [span.least, span.greatest]);
+    let split = split.map_or(-1, |split| split as i64);
+    let mut row = [0; ROW];
+    row[..3].copy_from_slice(&[first as i64, last as i64, split]);
+    row[3..].copy_from_slice(spans.as_flattened());
+    row
 }
 
 /// The extents of a run of points on the sheet, and the index in it at which it splits (none for a

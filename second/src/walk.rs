@@ -180,10 +180,10 @@ impl Tally {
 
 /// A node that is due: its row and the range handed down to it.
 #[derive(Clone, Copy)]
-struct Node {
-    row: usize,
-    first: usize,
-    last: usize,
+pub(crate) struct Node {
+    pub(crate) row: usize,
+    pub(crate) first: usize,
+    pub(crate) last: usize,
 }
 
 impl Node {
@@ -211,14 +211,14 @@ impl Node {
     }
 }
 
-/// A checked row with the points it stands on.
-struct View {
+/// A good row with the points it stands on.
+pub(crate) struct View {
     /// First point to last: the chord, and for a leaf the segment itself.
     chord: Segment,
     frame: Frame,
     extents: Extents,
     /// None for a leaf.
-    split: Option<usize>,
+    pub(crate) split: Option<usize>,
 }
 
 impl View {
@@ -231,7 +231,7 @@ impl View {
     }
 
     /// Is `z` strictly outside the box or the strip?
-    fn clear_of(&self, z: Point) -> bool {
+    pub(crate) fn clear_of(&self, z: Point) -> bool {
         !(self.extents.x.holds(z.x)
             && self.extents.y.holds(z.y)
             && self.extents.c.holds(self.frame.c(z.x, z.y))
@@ -285,21 +285,26 @@ impl Tree<'_> {
         }
     }
 
-    /// Reads the row of a node, or refuses it as bad (refusal 10).
+    /// Reads the row of a node at a visit, or refuses it as bad (refusal 10).
     fn read(&self, node: Node) -> Result<View, Stop> {
+        self.view(node).ok_or(Stop::Refused(Refusal {
+            number: 10,
+            line: Some(self.name),
+            place: node.row as u64,
+        }))
+    }
+
+    /// The row of a node, where it is good.
+    pub(crate) fn view(&self, node: Node) -> Option<View> {
         let row = &self.table[ROW * node.row..][..ROW];
         let chord = Segment {
             from: point(self.points, node.first),
             to: point(self.points, node.last),
         };
         if !good(row, node, chord) {
-            return Err(Stop::Refused(Refusal {
-                number: 10,
-                line: Some(self.name),
-                place: node.row as u64,
-            }));
+            return None;
         }
-        Ok(View {
+        Some(View {
             chord,
             frame: Frame::of(chord.from, chord.to),
             extents: extents(row),

@@ -9,11 +9,11 @@ use Rattle.rules.specs.declared.Line.the-variants.{LineA, LineB}
 use Rattle.rules.specs.declared.Refusal.{Refusal}
 use Rattle.rules.specs.Sheet.{distanceFits}
 use Rattle.rules.specs.declared.Reply.{Reply}
-use Rattle.rules.specs.Reply.{early, firstRefusal, orRefused}
+use Rattle.rules.specs.Reply.{early, firstRefusal, orRefused, orElse}
 use Rattle.rules.specs.Rows.{lengthChecks, distanceCheck}
 use Rattle.rules.specs.Walk.{fresh}
 use Rattle.rules.specs.Questions.{agreed, agreeWalk, agreeReply}
-use Rattle.visits.proofs.Checks.{orElse, first-append}
+use Rattle.visits.proofs.Checks.{first-append}
 
 -- refusal 7, by whether the distance fits
 abbrev pub distanceRefusal : ℤ → Bool → Option Refusal

@@ -1,6 +1,6 @@
 // AGREE: whether each point of one line is near the other line, both ways round. The checks in their order, then the
 // walks; the answer is that of `rules`, for all numbers that the slices can hold.
-use line::Checked;
+use rules::Checked;
 use rules::Line;
 use rules::Reply;
 use rules::Tally;

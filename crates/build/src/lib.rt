@@ -4,6 +4,7 @@ mod rows;
 
 use build_checks::check;
 use rules::Built;
+use rules::Checked;
 ghost use mathlib.Core.Path.{_≡_};
 ghost use Rattle.rules.specs.Build.{buildRefusal, builtTable};
 ghost use Rattle.rules.specs.Reply.{builtRefusal};
@@ -13,7 +14,7 @@ pub fn build(points: &[i64], table: &mut [i64]) -> Built
     ensures { λ _. ⌜ now (table .exit) ≡ builtTable (now (points .entry)) (now (table .entry)) ⌝ }
 {
     let checked = check(points, table.len());
-    if let Built::Refused(refusal) = checked {
+    if let Checked::Refused(refusal) = checked {
         return Built::Refused(refusal);
     }
     let last = points.len() / 2 - 1;

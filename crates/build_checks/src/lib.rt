@@ -1,11 +1,11 @@
-// The refusals of building, 1 to 6 in this order.
+// The refusals of building and of checking a table, 1 to 6 in this order.
 use limits::FEWEST;
 use limits::MOST;
 use limits::WIDTH;
 use line::on_sheet_at;
 use line::point_at;
 use line::same_point;
-use rules::Built;
+use rules::Checked;
 use rules::Line;
 use rules::Refusal;
 ghost use mathlib.Core.Path.{_≡_};
@@ -14,7 +14,7 @@ ghost use Prim.Native.Nat.{_+_, _*_, _≤_};
 ghost use lib.IntN.{ℤ};
 ghost use lib.ListN.{length};
 ghost use Rattle.rules.specs.Build.{lowest, offSheet, equalNext, buildRefusal};
-ghost use Rattle.rules.specs.Reply.{builtRefusal};
+ghost use Rattle.rules.specs.Reply.{checkedRefusal};
 
 // The lowest point off the sheet, or count where there is none.
 fn lowest_off(points: &[i64], count: usize) -> usize
@@ -46,10 +46,11 @@ fn lowest_equal(points: &[i64], segments: usize) -> usize
     i
 }
 
-fn refuse(number: u32, place: usize) -> Built
-    ensures { λ r. ⌜ r ≡ Built.Refused (record { number = number; line = Line.LineA; place = place; visits = 0 }) ⌝ }
+// A refusal of line A, before any visit.
+pub fn refuse(number: u32, place: usize) -> Checked
+    ensures { λ r. ⌜ r ≡ Checked.Refused (record { number = number; line = Line.LineA; place = place; visits = 0 }) ⌝ }
 {
-    Built::Refused(Refusal {
+    Checked::Refused(Refusal {
         number,
         line: Line::LineA,
         place,
@@ -58,8 +59,8 @@ fn refuse(number: u32, place: usize) -> Built
 }
 
 // The first refusal, for a table of so many numbers.
-pub fn check(points: &[i64], room: usize) -> Built
-    ensures { λ r. ⌜ ((t : List ℤ) → length t ≡ room → builtRefusal r ≡ buildRefusal (now (points .entry)) t) ⌝ }
+pub fn check(points: &[i64], room: usize) -> Checked
+    ensures { λ r. ⌜ ((t : List ℤ) → length t ≡ room → checkedRefusal r ≡ buildRefusal (now (points .entry)) t) ⌝ }
 {
     if points.len() % 2 == 1 {
         return refuse(1, 0);
@@ -83,5 +84,5 @@ pub fn check(points: &[i64], room: usize) -> Built
     if room < WIDTH * (2 * segments - 1) {
         return refuse(6, 0);
     }
-    Built::Written
+    Checked::Fine
 }

@@ -20,8 +20,8 @@ use Rattle.rules.specs.Build.{buildRefusal, tableOf, builtTable}
 use Rattle.words.specs.declared.Record.{Record}
 use Rattle.words.specs.declared.Record.the-variants.{Near, In, Meet, Agree}
 use Rattle.desk.specs.Desk.{Store, Desk, countText, refusedAt, onBuild, withTable, ofA, ofBoth, takeRecord, takeText}
-use Rattle.table_truth.specs.Accepted.{rowNumbers}
-use Rattle.table_truth.proofs.Refusals.{accepted}
+use Rattle.table_truth.specs.Buildable.{rowNumbers}
+use Rattle.table_truth.proofs.Refusals.{buildable}
 use Rattle.table_truth.proofs.Table.{table-length, built-rows, built-length}
 use Rattle.demands.specs.Answers.{Answers, nearPlain, meetPlain, inPlain, agreePlain}
 use Rattle.demands.specs.Program.{Builds, ProgramAnswers}
@@ -31,7 +31,7 @@ use Rattle.demands.proofs.Built.{near-built, in-built, meet-built, agre
 own-table : (ps : List ℤ) → buildRefusal ps (tableOf ps) ≡ none → builtTable ps (tableOf ps) ≡ tableOf ps
 own-table ps e =
     let t = tableOf ps in
-    let whole = table-length ps (accepted ps t e .lengths .some-points) in
+    let whole = table-length ps (buildable ps t e .lengths .some-points) in
     sym (take-all (rowNumbers ps) (builtTable ps t) (omega (arith, built-length ps t))) ∙ built-rows ps t e
 
 -- the table that a store builds

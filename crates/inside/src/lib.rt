@@ -1,11 +1,11 @@
 // IN: which side of a ring a point is on. `inside` replies as `inReply` says, whatever the points, the table, the point
 // and the allowance are.
-use line::Checked;
 use line::check_lengths;
 use line::early;
 use line::on_sheet;
 use line::point_at;
 use line::same_point;
+use rules::Checked;
 use rules::Line;
 use rules::Point;
 use rules::Reply;

@@ -1,4 +1,4 @@
--- The codes of words and lines, and a reply in numbers. A built table is the word 0.
+-- The codes of words and lines, and a reply in numbers. A table that is built, or accepted, is the word 0.
 use mathlib.Core.Option.{Option, none, some}
 use Prim.Native.Nat.{ℕ}
 use Rattle.rules.specs.declared.Line.{Line}
@@ -34,6 +34,9 @@ coded r =
       place = r .place;
     }
 
+abbrev pub unrefused : KneukelboomReply
+unrefused = record { word = 0; visits = 0; number = 0; line = 0; place = 0 }
+
 abbrev pub codedBuild : Option Refusal → KneukelboomReply
-codedBuild none = record { word = 0; visits = 0; number = 0; line = 0; place = 0 }
+codedBuild none = unrefused
 codedBuild (some r) = coded (refuses r)

@@ -1,6 +1,7 @@
 // The proved library for C, Rust and whatever links them: slices as pointer and length, replies as one struct of plain
 // numbers. No call requires anything of its numbers: whatever is passed is answered.
 use rules::Built;
+use rules::Checked;
 use rules::Line;
 use rules::Point;
 use rules::Reply;
@@ -9,9 +10,10 @@ use rules::refuses;
 ghost use mathlib.Core.Path.{_≡_};
 ghost use Rattle.rules.specs.Build.{buildRefusal, builtTable};
 ghost use Rattle.rules.specs.Old.{widenRefusal, widened};
-ghost use Rattle.rules.specs.Reply.{builtRefusal};
+ghost use Rattle.rules.specs.Check.{checkRefusal};
+ghost use Rattle.rules.specs.Reply.{builtRefusal, checkedRefusal};
 ghost use Rattle.rules.specs.Questions.{nearReply, meetReply, inReply, agreeReply};
-ghost use Rattle.kneukelboom_c.specs.Codes.{wordCode, lineCode, coded, codedBuild};
+ghost use Rattle.kneukelboom_c.specs.Codes.{wordCode, lineCode, coded, unrefused, codedBuild};
 
 // What a call answers, in numbers: the word's code, the visits, the refusal number or 0, the line's code, and the
 // place or 0.
@@ -63,19 +65,36 @@ fn coded(reply: Reply) -> KneukelboomReply
     }
 }
 
+// A table is written, or accepted.
+fn unrefused() -> KneukelboomReply
+    ensures { λ r. ⌜ r ≡ unrefused ⌝ }
+{
+    KneukelboomReply {
+        word: 0,
+        visits: 0,
+        number: 0,
+        line: 0,
+        place: 0,
+    }
+}
+
 // What a build or a widening came to, in numbers.
 fn coded_built(built: Built) -> KneukelboomReply
     ensures { λ r. ⌜ r ≡ codedBuild (builtRefusal built) ⌝ }
 {
     match built {
-        Built::Written => KneukelboomReply {
-            word: 0,
-            visits: 0,
-            number: 0,
-            line: 0,
-            place: 0,
-        },
+        Built::Written => unrefused(),
         Built::Refused(refusal) => coded(refuses(refusal)),
+    }
+}
+
+// What the checker came to, in numbers.
+fn coded_checked(checked: Checked) -> KneukelboomReply
+    ensures { λ r. ⌜ r ≡ codedBuild (checkedRefusal checked) ⌝ }
+{
+    match checked {
+        Checked::Fine => unrefused(),
+        Checked::Refused(refusal) => coded(refuses(refusal)),
     }
 }
 
@@ -93,6 +112,13 @@ pub extern "C" fn kneukelboom_build_v2(points: &[i64], table: &mut [i64]) -> Kne
     ensures { λ _. ⌜ now (table .exit) ≡ builtTable (now (points .entry)) (now (table .entry)) ⌝ }
 {
     coded_built(build::build(points, table))
+}
+
+#[no_mangle]
+pub extern "C" fn kneukelboom_check_v2(points: &[i64], table: &[i64]) -> KneukelboomReply
+    ensures { λ r. ⌜ r ≡ codedBuild (checkRefusal (now (points .entry)) (now (table .entry))) ⌝ }
+{
+    coded_checked(checker::check(points, table))
 }
 
 #[no_mangle]

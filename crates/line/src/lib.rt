@@ -4,6 +4,7 @@ use limits::FEWEST;
 use limits::LIMIT;
 use limits::MOST;
 use limits::WIDTH;
+use rules::Checked;
 use rules::Line;
 use rules::Point;
 use rules::Refusal;
@@ -14,9 +15,9 @@ ghost use lib.ListN.{length};
 ghost use Rattle.integers.specs.Order.{minZ, maxZ};
 ghost use Rattle.rules.specs.Plane.{samePoint, step, direction, cAt, tAt, size²};
 ghost use Rattle.rules.specs.Sheet.{point, inSheet, onSheet};
-ghost use Rattle.rules.specs.Reply.{firstRefusal};
+ghost use Rattle.rules.specs.Reply.{checkedRefusal, firstRefusal};
 ghost use Rattle.rules.specs.Rows.{lengthChecks};
-ghost use Rattle.line.specs.Checked.{checkedRefusal};
+ghost use Rattle.rules.specs.Build.{holdsNumber};
 ghost use Rattle.limits.specs.Small.{OnSheet, Small};
 
 pub fn lesser(a: i64, b: i64) -> i64
@@ -29,6 +30,13 @@ pub fn greater(a: i64, b: i64) -> i64
     ensures { λ r. ⌜ r ≡ maxZ a b ⌝ }
 {
     if a < b { b } else { a }
+}
+
+// Whether v lies between lo and hi.
+pub fn holds(lo: i64, hi: i64, v: i64) -> bool
+    ensures { λ h. ⌜ h ≡ holdsNumber lo hi v ⌝ }
+{
+    (lo <= v) & (v <= hi)
 }
 
 // Point i of a line.
@@ -124,12 +132,6 @@ pub fn size2(u: Point) -> i64
     ensures { λ r. ⌜ r ≡ size² u ⌝ }
 {
     dot(u, u)
-}
-
-// What the checks before a walk come to.
-pub enum Checked {
-    Fine,
-    Refused(Refusal),
 }
 
 // A refusal before the walk.

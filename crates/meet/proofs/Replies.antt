@@ -7,11 +7,11 @@ use lib.IntN.{ℤ}
 use Rattle.rules.specs.declared.Line.the-variants.{LineA, LineB}
 use Rattle.rules.specs.declared.Refusal.{Refusal}
 use Rattle.rules.specs.declared.Reply.{Reply}
-use Rattle.rules.specs.Reply.{firstRefusal, orRefused}
+use Rattle.rules.specs.Reply.{firstRefusal, orRefused, orElse}
 use Rattle.rules.specs.Rows.{lengthChecks}
 use Rattle.rules.specs.Walk.{fresh}
 use Rattle.rules.specs.Questions.{meetWalk, yesOrNo, meetReply}
-use Rattle.visits.proofs.Checks.{orElse, first-append}
+use Rattle.visits.proofs.Checks.{first-append}
 
 module _ (ps t qs t′ : List ℤ) (allowance : ℕ) where
   abbrev pub walkReply : Reply

@@ -137,9 +137,9 @@ module _ (ps t qs t′ : List ℤ) (allowance : ℕ) (sound-A : T (sound ps t)) 
   meet-no h = meet-none ps qs .0 (meet-sure .1 h)
 
 -- the checks do not depend on which line is A
-accepted-swaps : (ps t qs t′ : List ℤ) → firstRefusal (lengthChecks LineA ps t ++ lengthChecks LineB qs t′) ≡ none
+unrefused-swaps : (ps t qs t′ : List ℤ) → firstRefusal (lengthChecks LineA ps t ++ lengthChecks LineB qs t′) ≡ none
     → firstRefusal (lengthChecks LineA qs t′ ++ lengthChecks LineB ps t) ≡ none
-accepted-swaps ps t qs t′ e =
+unrefused-swaps ps t qs t′ e =
     let c = clear-parts (lengthChecks LineA ps t) (lengthChecks LineB qs t′) (none-clear (meetChecks ps t qs t′) e) in
     clear-none (meetChecks qs t′ ps t)
     (clear-whole (lengthChecks LineA qs t′) (lengthChecks LineB ps t) (c .1) (c .0))
@@ -152,7 +152,7 @@ pub meet-swaps : (ps t qs t′ : List ℤ) (allowance allowance′ : ℕ) → T 
 meet-swaps ps t qs t′ allowance allowance′ sa sb e d d′ =
     decided (meet-true ps t qs t′ allowance sa sb e) d
     ∙ ap (λ (b : Bool). cond b YES NO) (plainMeet-swaps ps qs)
-    ∙ sym (decided (meet-true qs t′ ps t allowance′ sb sa (accepted-swaps ps t qs t′ e)) d′)
+    ∙ sym (decided (meet-true qs t′ ps t allowance′ sb sa (unrefused-swaps ps t qs t′ e)) d′)
   where
     decided : {v w : Word} → (v ≡ UNDECIDED) ⊎ (v ≡ w) → (v ≡ UNDECIDED → ⊥) → v ≡ w
     decided h d = ⊎-elim (λ u. absurd (d u)) (λ e. e) h

@@ -10,11 +10,11 @@ use Rattle.rules.specs.declared.Point.{Point}
 use Rattle.rules.specs.declared.Refusal.{Refusal}
 use Rattle.rules.specs.Sheet.{onSheet, distanceFits}
 use Rattle.rules.specs.declared.Reply.{Reply}
-use Rattle.rules.specs.Reply.{early, firstRefusal, orRefused}
+use Rattle.rules.specs.Reply.{early, firstRefusal, orRefused, orElse}
 use Rattle.rules.specs.Rows.{lengthChecks, distanceCheck, askedCheck}
 use Rattle.rules.specs.Walk.{fresh}
 use Rattle.rules.specs.Questions.{nearWalk, yesOrNo, nearReply}
-use Rattle.visits.proofs.Checks.{orElse, first-append}
+use Rattle.visits.proofs.Checks.{first-append}
 
 module _ (ps t : List ℤ) (z : Point) (D : ℤ) (allowance : ℕ) where
   abbrev pub walkReply : Reply

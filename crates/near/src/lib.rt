@@ -1,6 +1,6 @@
 // NEAR: whether a point lies within a distance of a line. The checks in their order, then the walk; the answer is that
 // of `rules`, for all numbers that the slices can hold.
-use line::Checked;
+use rules::Checked;
 use rules::Line;
 use rules::Point;
 use rules::Reply;

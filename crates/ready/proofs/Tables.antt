@@ -19,10 +19,10 @@ use Rattle.rules.specs.declared.Reply.{Reply}
 use Rattle.rules.specs.Reply.{firstRefusal}
 use Rattle.rules.specs.Rows.{pointChecks}
 use Rattle.rules.specs.Build.{sheetCheck, neighbourCheck, buildRefusal, tableOf, builtTable}
-use Rattle.table_truth.specs.Accepted.{rowNumbers}
+use Rattle.table_truth.specs.Buildable.{rowNumbers}
 use Rattle.table_truth.proofs.Rows.{≤-or->}
-use Rattle.table_truth.proofs.Refusals.{accepted, none-refused}
-use Rattle.table_truth.proofs.Table.{table-length, built-rows, built-length, built-accepted, built-twice}
+use Rattle.table_truth.proofs.Refusals.{buildable, none-refused}
+use Rattle.table_truth.proofs.Table.{table-length, built-rows, built-length, built-buildable, built-twice}
 use Rattle.desk.specs.declared.Held.{Held}
 use Rattle.desk.specs.Desk.{Store, refusedAt, onBuild, withTable}
 use Rattle.desk.specs.Kept.{storeIn, Stored, tableRoom}
@@ -60,8 +60,8 @@ rows-fit h numbers t s e =
 -- where the build refuses nothing, the rows stand in the table
 rows-stand : (ps t : List ℤ) → buildRefusal ps t ≡ none → Rows ps (builtTable ps t)
 rows-stand ps t e = record {
-  enough = accepted ps t e .lengths .some-points;
-  fits = omega (arith, built-length ps t, accepted ps t e .lengths .table-long);
+  enough = buildable ps t e .lengths .some-points;
+  fits = omega (arith, built-length ps t, buildable ps t e .lengths .table-long);
   front = built-rows ps t e;
 }
 
@@ -116,7 +116,7 @@ stays-ready s t e =
     let u = builtTable ps t in
     let built : StaysReady s u =
     record {
-      ready = sym (ready-is s u p (none-refused ps u (built-accepted ps t q)));
+      ready = sym (ready-is s u p (none-refused ps u (built-buildable ps t q)));
       same = sym (table-is s u p) ∙ built-twice ps t;
     } in
     subst (StaysReady s) (table-is s t p) built)
@@ -126,7 +126,7 @@ pub kept-same : (l : Line) (s : Store) (place : ℕ) {t : List ℤ} → StaysRea
 kept-same l s place {t} h =
     by-ready s t (h .ready)
     (λ p q. record {
-      reply = λ go. with-table l s place go t (accepted (s .points) t q .lengths .table-long) p q;
+      reply = λ go. with-table l s place go t (buildable (s .points) t q .lengths .table-long) p q;
       goes = sym (h .ready);
       left = sym (h .same);
     })

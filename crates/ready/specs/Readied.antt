@@ -10,7 +10,7 @@ use Rattle.rules.specs.declared.Line.the-variants.{LineA, LineB}
 use Rattle.rules.specs.Sheet.{pointsOf, fewest}
 use Rattle.rules.specs.declared.Reply.{Reply}
 use Rattle.rules.specs.Build.{tableOf}
-use Rattle.table_truth.specs.Accepted.{rowNumbers}
+use Rattle.table_truth.specs.Buildable.{rowNumbers}
 use Rattle.desk.specs.declared.Held.{Held}
 use Rattle.desk.specs.Desk.{Store, withTable}
 use Rattle.desk.specs.Kept.{storeIn, Stored, tableRoom}

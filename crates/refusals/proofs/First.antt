@@ -13,9 +13,9 @@ use mir.Facts.{and-yes}
 use Rattle.integers.specs.Laws.{test-ind, option-ind}
 use Rattle.rules.specs.declared.Refusal.{Refusal}
 use Rattle.rules.specs.declared.Reply.{Reply}
-use Rattle.rules.specs.Reply.{Check, early, firstRefusal, orRefused, refuses}
+use Rattle.rules.specs.Reply.{Check, early, firstRefusal, orRefused, refuses, orElse}
 use Rattle.rules.specs.Build.{buildRefusal, buildChecks}
-use Rattle.visits.proofs.Checks.{clear-none, orElse, first-append}
+use Rattle.visits.proofs.Checks.{clear-none, first-append}
 use Rattle.visits.proofs.Tests.{never}
 use Rattle.refusals.specs.Reason.{Reason}
 

@@ -1,18 +1,20 @@
 -- docs/RULES.md, section 8: P1 to P12 of the definitions, as one list under one theorem; one small example for each of
--- the "slips that look right" that the figures do not reach; and the limits of the sheet. All by computation.
+-- the "slips that look right" that the figures do not reach; the limits of the sheet; and the checker. All by
+-- computation.
 use mathlib.Core.Path.{_≡_, refl}
 use mathlib.Core.Bool.{true, false}
 use mathlib.Core.List.{List, [], _∷_, _++_}
-use mathlib.Core.Option.{none, some}
-use Prim.Native.Nat.{ℕ}
+use mathlib.Core.Option.{Option, none, some}
+use Prim.Native.Nat.{ℕ, _+_, _*_}
 use lib.IntN.{ℤ, pos, negsuc}
-use lib.ListN.{set, replicate}
+use lib.ListN.{set, replicate, take}
 use Rattle.rules.specs.declared.Line.the-variants.{NoLine, LineA, LineB}
 use Rattle.rules.specs.declared.Point.{Point}
+use Rattle.rules.specs.declared.Refusal.{Refusal}
 use Rattle.rules.specs.Plane.{direction}
 use Rattle.rules.specs.Sheet.{between}
 use Rattle.rules.specs.Tree.{least, greatest, height, better, best, splitOf, rowAt, measured, rowsOf}
-use Rattle.rules.specs.Plain.{within, share, onSegment, crosses, joined, plainNear, plainMeet, plainOn}
+use Rattle.rules.specs.Plain.{within, share, onSegment, crosses, joined, plainNear}
 use Rattle.rules.specs.Plain.{plainInside, plainAgree}
 use Rattle.rules.specs.declared.Word.the-variants.{YES, NO, INSIDE, OUTSIDE, ON, UNDECIDED}
 use Rattle.rules.specs.declared.Reply.{Reply}
@@ -21,8 +23,9 @@ use Rattle.rules.specs.Walk.{walk}
 use Rattle.rules.specs.Rows.{good}
 use Rattle.rules.specs.Questions.{shortfall, farFrom, nearVisit, nearReply, beyondCorners, apart, meetVisit}
 use Rattle.rules.specs.Questions.{meetReply, clearOf, inVisit, inReply, askAll, agreeWalk, agreeReply}
-use Rattle.rules.specs.Build.{lowest, buildRefusal, tableOf, builtTable}
+use Rattle.rules.specs.Build.{lowest, buildRefusal, tableOf, builtTable, holdsPoint, rowHolds}
 use Rattle.rules.specs.Old.{oldRefusal, oldTable, widened, widenRefusal}
+use Rattle.rules.specs.Check.{rowFault, faultFrom, tableFault, checkRefusal}
 
 abbrev at : ℕ → ℕ → Point
 at x y = record { x = pos x; y = pos y }
@@ -196,3 +199,65 @@ pub the-old-sheet :
     × (oldTable (eastTo 16384) (pos 7 ∷ ten) ≡ pos 7 ∷ ten)
 unfolding oldRefusal oldTable lowest tableOf rowsOf measured splitOf best better height least greatest direction between
 the-old-sheet = (refl, refl, refl, refl)
+
+-- ---- the checker: a number of L's table changed, by row and column
+abbrev changed : ℕ → ℕ → ℤ → List ℤ → List ℤ
+changed row column v t = set t (11 * row + column) v
+
+abbrev foundIn : List ℤ → Option Refusal
+foundIn t = checkRefusal L t
+
+abbrev atRow : ℕ → ℕ → Option Refusal
+atRow number place = some (record { number = number; line = LineA; place = place; visits = 0 })
+
+pub the-checker :
+    (foundIn (tableOf L) ≡ none)  -- as built
+    × (foundIn (changed 0 4 (pos 25) (tableOf L)) ≡ none)  -- a looser strip
+    × (foundIn (changed 0 8 (pos 1000000) (tableOf L)) ≡ none)  -- a box to the sheet's edge
+    × (foundIn (changed 0 3 (negsuc 2147483647) (changed 0 4 (pos 2147483647) (tableOf L))) ≡ none)
+    × (foundIn (tableOf L ++ pos 5 ∷ []) ≡ none)  -- numbers past the rows
+    × (foundIn (changed 0 4 (pos 23) (tableOf L)) ≡ atRow 22 0)  -- the strip, and the box, leave a point out
+    × (foundIn (changed 0 9 (pos 1) (tableOf L)) ≡ atRow 22 0)
+    × (foundIn (changed 0 3 (pos 1) (tableOf L)) ≡ atRow 21 0)  -- not good, though points are left out, too
+    × (foundIn (changed 0 4 (negsuc 0) (tableOf L)) ≡ atRow 21 0)
+    × (foundIn (changed 0 9 (pos 4) (tableOf L)) ≡ atRow 21 0)
+    × (foundIn (changed 0 8 (pos 1000001) (tableOf L)) ≡ atRow 21 0)
+    × (foundIn (changed 1 2 (pos 0) (tableOf L)) ≡ atRow 21 1)
+    × (foundIn (changed 2 0 (pos 0) (tableOf L)) ≡ atRow 21 2)
+    × (foundIn (changed 0 4 (pos 23) (changed 1 2 (pos 0) (tableOf L))) ≡ atRow 22 0)  -- the lowest row decides
+    × (foundIn (changed 0 2 (pos 2) (changed 0 4 (pos 23) (tableOf L))) ≡ atRow 21 0)
+    × (foundIn (changed 1 6 (pos 24) (changed 2 0 (pos 0) (tableOf L))) ≡ atRow 22 1)
+    × (foundIn (changed 2 8 (pos 7) (tableOf L)) ≡ atRow 22 2)
+    × (foundIn (take 32 (tableOf L)) ≡ atRow 6 0)  -- 1 to 6 come first
+    × (checkRefusal (pos 0 ∷ pos 0 ∷ pos 4 ∷ pos 3 ∷ pos 4 ∷ pos 3 ∷ []) [] ≡ atRow 5 1)
+unfolding tableOf rowsOf measured splitOf best better height least greatest rowAt direction between joined good
+    buildRefusal lowest holdsPoint rowHolds rowFault faultFrom tableFault checkRefusal
+the-checker =
+    (refl, refl, refl, refl, refl, refl, refl, refl, refl, refl, refl, refl, refl, refl, refl, refl, refl, refl, refl)
+
+-- a table of S by other splits: at 1, then 2, then 3
+abbrev foreign : List ℤ
+foreign =
+    pos 0 ∷ pos 4 ∷ pos 1 ∷ pos 0 ∷ pos 4 ∷ pos 0 ∷ pos 4 ∷ pos 0 ∷ pos 4 ∷ pos 0 ∷ pos 4
+    ∷ pos 0 ∷ pos 1 ∷ negsuc 0 ∷ pos 0 ∷ pos 0 ∷ pos 0 ∷ pos 16 ∷ pos 0 ∷ pos 4 ∷ pos 0 ∷ pos 0
+    ∷ pos 1 ∷ pos 4 ∷ pos 2 ∷ negsuc 15 ∷ pos 0 ∷ pos 0 ∷ pos 16 ∷ pos 0 ∷ pos 4 ∷ pos 0 ∷ pos 4
+    ∷ pos 1 ∷ pos 2 ∷ negsuc 0 ∷ pos 0 ∷ pos 0 ∷ pos 0 ∷ pos 16 ∷ pos 4 ∷ pos 4 ∷ pos 0 ∷ pos 4
+    ∷ pos 2 ∷ pos 4 ∷ pos 3 ∷ negsuc 15 ∷ pos 0 ∷ pos 0 ∷ pos 32 ∷ pos 0 ∷ pos 4 ∷ pos 0 ∷ pos 4
+    ∷ pos 2 ∷ pos 3 ∷ negsuc 0 ∷ pos 0 ∷ pos 0 ∷ pos 0 ∷ pos 16 ∷ pos 0 ∷ pos 4 ∷ pos 4 ∷ pos 4
+    ∷ pos 3 ∷ pos 4 ∷ negsuc 0 ∷ pos 0 ∷ pos 0 ∷ pos 0 ∷ pos 16 ∷ pos 0 ∷ pos 0 ∷ pos 0 ∷ pos 4 ∷ []
+
+pub other-splits-are-accepted :
+    (checkRefusal S foreign ≡ none)
+    × (rowAt foreign 0 .split ≡ pos 1)
+    × (rowAt (tableOf S) 0 .split ≡ pos 2)
+    × (nearReply S foreign (at 2 2) (pos 2) 99 ≡ says YES 2)
+    × (nearReply S (tableOf S) (at 2 2) (pos 2) 99 ≡ says YES 3)
+    × (nearReply S foreign (at 2 2) (pos 1) 99 ≡ says NO 7)
+    × (inReply S foreign (at 2 2) 99 ≡ says INSIDE 7)
+    × (inReply S foreign (at 4 2) 99 ≡ says ON 4)
+    × (checkRefusal S (changed 2 3 (negsuc 14) foreign) ≡ atRow 22 2)
+    × (checkRefusal S (changed 0 2 (pos 2) foreign) ≡ atRow 21 1)
+unfolding tableOf rowsOf measured splitOf best better height least greatest rowAt direction between joined good
+    buildRefusal lowest holdsPoint rowHolds rowFault faultFrom tableFault checkRefusal within walk shortfall farFrom
+    nearVisit nearReply onSegment crosses clearOf inVisit inReply
+other-splits-are-accepted = (refl, refl, refl, refl, refl, refl, refl, refl, refl, refl)

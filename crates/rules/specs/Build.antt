@@ -20,7 +20,7 @@ use Rattle.rules.specs.Plain.{everyOf}
 use Rattle.rules.specs.Reply.{Check, firstRefusal}
 use Rattle.rules.specs.Rows.{pointChecks, tableCheck, good}
 use Rattle.rules.specs.declared.Node.{Node}
-use Rattle.rules.specs.Questions.{root, leaf, size, leftOf, rightOf, splitIn}
+use Rattle.rules.specs.Questions.{root, leaf, leftOf, rightOf, splitIn}
 
 -- the lowest of the k numbers i, i + 1, .. that has p, or i + k where none has
 unfoldable pub lowest : (ℕ → Bool) → ℕ → ℕ → ℕ
@@ -67,14 +67,18 @@ builtTable ps t = unlessRefused (buildRefusal ps t) (tableOf ps ++ drop (width *
 abbrev pub holdsNumber : ℤ → ℤ → ℤ → Bool
 holdsNumber lo hi v = leZ lo v && leZ v hi
 
-unfoldable pub holdsPoint : Row → List ℤ → ℕ → ℕ → Point → Bool
-holdsPoint r ps first last p =
-    holdsNumber (r .cmin) (r .cmax) (nodeC ps first last p) && holdsNumber (r .tmin) (r .tmax) (nodeT ps first last p)
-    && holdsNumber (r .xmin) (r .xmax) (p .x) && holdsNumber (r .ymin) (r .ymax) (p .y)
+-- of a point, its c and its t
+abbrev pub stripHolds : Row → ℤ → ℤ → Bool
+stripHolds r c t = holdsNumber (r .cmin) (r .cmax) c && holdsNumber (r .tmin) (r .tmax) t
 
-unfoldable pub holdsRun : List ℤ → List ℤ → Node → Bool
-holdsRun ps t n =
-    everyOf (λ i. holdsPoint (rowAt t (n .row)) ps (n .first) (n .last) (point ps i)) (n .first) (suc (size n))
+abbrev pub boxHolds : Row → Point → Bool
+boxHolds r p = holdsNumber (r .xmin) (r .xmax) (p .x) && holdsNumber (r .ymin) (r .ymax) (p .y)
+
+unfoldable pub holdsPoint : Row → List ℤ → ℕ → ℕ → Point → Bool
+holdsPoint r ps first last p = stripHolds r (nodeC ps first last p) (nodeT ps first last p) && boxHolds r p
+
+unfoldable pub rowHolds : List ℤ → Row → ℕ → ℕ → Bool
+rowHolds ps r first last = everyOf (λ i. holdsPoint r ps first last (point ps i)) first (suc (last - first))
 
 -- with at most this many levels
 unfoldable pub soundFrom : ℕ → List ℤ → List ℤ → Node → Bool
@@ -82,7 +86,8 @@ soundFrom zero ps t n = true
 soundFrom (suc levels) ps t n =
     let s = splitIn (rowAt t (n .row)) in
     let halves = soundFrom levels ps t (leftOf n s) && soundFrom levels ps t (rightOf n s) in
-    good ps (rowAt t (n .row)) (n .first) (n .last) && holdsRun ps t n && cond (leaf n) true halves
+    good ps (rowAt t (n .row)) (n .first) (n .last) && rowHolds ps (rowAt t (n .row)) (n .first) (n .last)
+    && cond (leaf n) true halves
 
 unfoldable pub sound : List ℤ → List ℤ → Bool
 sound ps t = soundFrom (segmentsOf ps) ps t (root ps)

@@ -8,4 +8,5 @@ pub mod Walk
 pub mod Rows
 pub mod Questions
 pub mod Build
+pub mod Check
 pub mod Old

@@ -9,6 +9,8 @@ use Rattle.rules.specs.declared.Line.the-variants.{NoLine}
 use Rattle.rules.specs.declared.Refusal.{Refusal}
 use Rattle.rules.specs.declared.Built.{Built}
 use Rattle.rules.specs.declared.Built.the-variants as built
+use Rattle.rules.specs.declared.Checked.{Checked}
+use Rattle.rules.specs.declared.Checked.the-variants as checked
 use Rattle.rules.specs.declared.Word.{Word}
 use Rattle.rules.specs.declared.Word.the-variants.{NO, REFUSED}
 use Rattle.rules.specs.declared.Reply.{Reply}
@@ -23,10 +25,14 @@ disagrees l i v = record { word = NO; visits = v; number = 0; line = l; place = 
 abbrev pub refuses : Refusal → Reply
 refuses r = record { word = REFUSED; visits = r .visits; number = r .number; line = r .line; place = r .place }
 
--- ---- the refusal of a build, if it is refused
+-- ---- the refusal of a build, if it is refused, and of checks, if one holds
 abbrev pub builtRefusal : Built → Option Refusal
 builtRefusal built.Written = none
 builtRefusal (built.Refused r) = some r
+
+abbrev pub checkedRefusal : Checked → Option Refusal
+checkedRefusal checked.Fine = none
+checkedRefusal (checked.Refused r) = some r
 
 -- ---- numbered refusals, in the order checked: the first reason that holds decides, before any visit
 pub record Check : Type 0 where
@@ -41,6 +47,11 @@ early k = record { number = k .number; line = k .line; place = k .place; visits 
 abbrev pub firstRefusal : List Check → Option Refusal
 firstRefusal [] = none
 firstRefusal (k ∷ ks) = cond (k .holds) (some (early k)) (firstRefusal ks)
+
+-- what one option says, or else the other
+abbrev pub orElse : {A : Type 0} → Option A → Option A → Option A
+orElse none r = r
+orElse (some a) r = some a
 
 abbrev pub orRefused : Option Refusal → Reply → Reply
 orRefused none r = r

@@ -59,6 +59,12 @@ pub enum Built {
     Refused(Refusal),
 }
 
+// What checks come to.
+pub enum Checked {
+    Fine,
+    Refused(Refusal),
+}
+
 // The words of an answer, as they are printed.
 pub enum Word {
     YES,

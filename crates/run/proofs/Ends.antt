@@ -31,7 +31,7 @@ module _ (s e : Point) where
       (λ _. ring 4 (λ x y v w. (v :- x) :* (w :- y) :- (w :- y) :* (v :- x) := con (pos 0)) tt (s .x) (s .y) (e .x)
       (e .y))
 
-  t-end : tAt s (direction s e) e ≡ size² (step s e)
+  pub t-end : tAt s (direction s e) e ≡ size² (step s e)
   unfolding direction
   t-end =
       cond-ind (samePoint s e) flat (step s e) (λ u. tAt s u e ≡ size² (step s e))
@@ -47,7 +47,7 @@ module _ (s e : Point) where
   abbrev u : Point
   u = direction s e
 
-  square : pos 0 ≤ℤ size² (step s e)
+  pub square : pos 0 ≤ℤ size² (step s e)
   square = nn-add (nn-sq (step s e .x)) (nn-sq (step s e .y))
 
   pub c-least : minZ (cAt s u s) (cAt s u e) ≡ pos 0

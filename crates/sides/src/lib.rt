@@ -3,6 +3,7 @@
 // row and points of the sheet.
 use line::c_at;
 use line::direction;
+use line::holds;
 use line::step;
 use line::t_at;
 use rules::Point;
@@ -11,18 +12,10 @@ ghost use mathlib.Core.Path.{_≡_};
 ghost use mathlib.Core.Bool.{_&&_};
 ghost use lib.IntN.{pos};
 ghost use lib.Signed.{ltZ};
-ghost use Rattle.rules.specs.Build.{holdsNumber};
 ghost use Rattle.rules.specs.Plane.{direction};
 ghost use Rattle.rules.specs.Plain.{rangeHolds, onSegment, lowHigh, sideOf, crosses};
 ghost use Rattle.rules.specs.Questions.{outside, clearOf};
 ghost use Rattle.limits.specs.Small.{OnSheet, Small};
-
-// Whether v lies between lo and hi.
-fn holds(lo: i64, hi: i64, v: i64) -> bool
-    ensures { λ r. ⌜ r ≡ holdsNumber lo hi v ⌝ }
-{
-    lo <= v && v <= hi
-}
 
 // Whether v lies between a and b, whichever is the lesser.
 fn range_holds(a: i64, b: i64, v: i64) -> bool

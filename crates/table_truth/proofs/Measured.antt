@@ -66,8 +66,7 @@ module _ (ps : List ℤ) (first last : ℕ) (order : first ≤ last) (s : ℤ) w
   measured-holds i h k =
       held cOf first last i h k
       also held tOf first last i h k
-      also held (λ j. point ps j .x) first last i h k
-      also held (λ j. point ps j .y) first last i h k
+      also (held (λ j. point ps j .x) first last i h k also held (λ j. point ps j .y) first last i h k)
 
   -- the row is good where its split is, its points are on the sheet, and a leaf's two points differ
   pub measured-good : ((i : ℕ) → first ≤ i → i ≤ last → onSheet (point ps i) ≡ true)

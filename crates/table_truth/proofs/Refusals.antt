@@ -1,4 +1,4 @@
--- Building refuses nothing exactly when the line and the table are accepted; and the place of refusals 4 and 5 is the
+-- Building refuses nothing exactly when a line can be built into a table; and the place of refusals 4 and 5 is the
 -- lowest point that is at fault.
 use mathlib.Core.Path.{_≡_, ap, _∙_}
 use mathlib.Core.Bool.{Bool, true, false, not, cond}
@@ -19,7 +19,7 @@ use Rattle.rules.specs.Build.{lowest, offSheet, equalNext, buildChecks, buildRe
 use Rattle.visits.proofs.Tests.{never}
 use Rattle.table_truth.specs.Lowest.{Lowest}
 use Rattle.visits.proofs.Checks.{_then_, none-clear, clear-none, lengths-read, lengths-clear}
-use Rattle.table_truth.specs.Accepted.{Accepted}
+use Rattle.table_truth.specs.Buildable.{Buildable}
 use Rattle.table_truth.proofs.Rows.{≤-or->}
 
 -- ---------------- the lowest number that has p
@@ -64,11 +64,11 @@ has-none p k h =
     le-ltb n k
     (⊎-elim (λ l. l) (λ l. let x = lowest-is p 0 k .found (omega arith) in let y = h n l in never (cc)) (≤-or-> k n))
 
--- building refuses nothing exactly where the line and the table are accepted
+-- building refuses nothing exactly where the line can be built into the table
 module _ (ps t : List ℤ) where
-  pub accepted : buildRefusal ps t ≡ none → Accepted ps t
+  pub buildable : buildRefusal ps t ≡ none → Buildable ps t
   unfolding buildRefusal
-  accepted e =
+  buildable e =
       let c = none-clear (buildChecks ps t) e in
       let later = c .1 .1 .1 in
       record {
@@ -77,7 +77,7 @@ module _ (ps t : List ℤ) where
         differ = none-has (equalNext ps) (segmentsOf ps) (later .1 .0);
       }
 
-  pub none-refused : Accepted ps t → buildRefusal ps t ≡ none
+  pub none-refused : Buildable ps t → buildRefusal ps t ≡ none
   unfolding buildRefusal
   none-refused a =
       let c = lengths-clear LineA ps t (a .lengths) in
@@ -90,9 +90,9 @@ module _ (ps t : List ℤ) where
       then c .1 .1 .1 .0
       then tt)
 
--- the points of an accepted line, by its segments
-pub points-on : {ps t : List ℤ} → Accepted ps t → (i : ℕ) → i ≤ segmentsOf ps → onSheet (point ps i) ≡ true
+-- the points of a buildable line, by its segments
+pub points-on : {ps t : List ℤ} → Buildable ps t → (i : ℕ) → i ≤ segmentsOf ps → onSheet (point ps i) ≡ true
 points-on a i h = a .on i (omega (arith, a .lengths .some-points))
 
-pub some-segment : {ps t : List ℤ} → Accepted ps t → 0 < segmentsOf ps
+pub some-segment : {ps t : List ℤ} → Buildable ps t → 0 < segmentsOf ps
 some-segment a = omega (arith, a .lengths .some-points)

@@ -21,12 +21,12 @@ use Rattle.rules.specs.Sheet.{point, segmentsOf, onSheet}
 use Rattle.rules.specs.Tree.{splitOf, width, rowAt, measured, noSplit, rowsOf}
 use Rattle.rules.specs.Rows.{splitGood, good}
 use Rattle.rules.specs.Questions.{root, leaf, size, leftOf, rightOf}
-use Rattle.rules.specs.Build.{holdsRun, soundFrom, sound, buildRefusal, tableOf, builtTable}
+use Rattle.rules.specs.Build.{rowHolds, soundFrom, sound, buildRefusal, tableOf, builtTable}
 use Rattle.visits.proofs.Counts.{everyOf-make}
-use Rattle.table_truth.specs.Accepted.{rowNumbers}
+use Rattle.table_truth.specs.Buildable.{rowNumbers}
 use Rattle.table_truth.proofs.Rows.{split-between, leaf-or-inner, leaf-front, inner-front, left-rows, right-rows}
 use Rattle.table_truth.proofs.Rows.{row-start}
-use Rattle.table_truth.proofs.Refusals.{accepted, points-on, some-segment}
+use Rattle.table_truth.proofs.Refusals.{buildable, points-on, some-segment}
 use Rattle.table_truth.proofs.Table.{built-whole}
 use Rattle.table_truth.proofs.Measured.{_also_, measured-holds, measured-good, split-good, leaf-good}
 use Rattle.table_truth.proofs.Measured.{no-split-good}
@@ -40,7 +40,7 @@ module _ (f : ℕ) (ps t : List ℤ) (n : Node) (z : ℤ) where
       → good ps (measured ps (n .first) (n .last) z) (n .first) (n .last) ≡ true
       → (n .first + 1 < n .last → Sound (leftOf n (natAbs z)) × Sound (rightOf n (natAbs z)))
       → soundFrom (suc f) ps t n ≡ true
-  unfolding soundFrom holdsRun measured
+  unfolding soundFrom rowHolds measured
   sound-make l e g h =
       simp e (g
       also yes-T _ (everyOf-make _ (n .first) (suc (size n)) (λ i a b.
@@ -101,6 +101,6 @@ module _ (ps t : List ℤ) (segments : ℕ) (on : (i : ℕ) → i ≤ segments �
 pub built-sound : (ps t : List ℤ) → buildRefusal ps t ≡ none → T (sound ps (builtTable ps t))
 unfolding sound tableOf
 built-sound ps t e =
-    let a = accepted ps t e in
+    let a = buildable ps t e in
     T-true (stands-sound ps (builtTable ps t) (segmentsOf ps) (points-on a) (a .differ) (segmentsOf ps) (root ps)
     (drop (rowNumbers ps) t) (some-segment a) (omega arith) (omega arith) (built-whole ps t e))

@@ -10,17 +10,13 @@ use lib.IntN.{ℤ}
 use lib.ListN.{length, take, drop, length-append, length-drop}
 use lib.Seq.{take-at, drop-at}
 use Rattle.integers.specs.Laws.{option-ind}
-use Rattle.rules.specs.declared.Line.{Line}
 use Rattle.rules.specs.declared.Refusal.{Refusal}
 use Rattle.rules.specs.Sheet.{pointsOf, segmentsOf, fewest}
 use Rattle.rules.specs.Tree.{width, rowCount}
-use Rattle.rules.specs.Reply.{firstRefusal}
-use Rattle.rules.specs.Rows.{lengthChecks}
 use Rattle.rules.specs.Build.{buildRefusal, tableOf, builtTable}
-use Rattle.visits.proofs.Checks.{clear-none, lengths-clear}
-use Rattle.table_truth.specs.Accepted.{rowNumbers, Accepted}
+use Rattle.table_truth.specs.Buildable.{rowNumbers, Buildable}
 use Rattle.table_truth.proofs.Rows.{count-rows}
-use Rattle.table_truth.proofs.Refusals.{accepted, none-refused}
+use Rattle.table_truth.proofs.Refusals.{buildable, none-refused}
 
 -- a line's table has 2n - 1 rows
 pub table-length : (ps : List ℤ) → fewest ≤ pointsOf ps → length (tableOf ps) ≡ rowNumbers ps
@@ -41,7 +37,7 @@ module _ (ps t : List ℤ) where
   built-whole e = rw e
 
   whole-length : buildRefusal ps t ≡ none → length (tableOf ps) ≡ rowNumbers ps
-  whole-length e = table-length ps (accepted ps t e .lengths .some-points)
+  whole-length e = table-length ps (buildable ps t e .lengths .some-points)
 
   pub built-rows : buildRefusal ps t ≡ none → take (rowNumbers ps) (builtTable ps t) ≡ tableOf ps
   built-rows e = rw (built-whole e) (take-at (tableOf ps) (drop (rowNumbers ps) t) (rowNumbers ps) (whole-length e))
@@ -61,14 +57,14 @@ module _ (ps t : List ℤ) where
       by-refusal
       (λ e.
       rw (built-whole e, length-append, length-drop, whole-length e)
-      (omega (arith, accepted ps t e .lengths .table-long)))
+      (omega (arith, buildable ps t e .lengths .table-long)))
       (λ r e. ap length (built-refused r e))
 
 -- ---------------- building again
 
--- acceptance goes by the length of the table alone
-pub accepted-longer : {ps t u : List ℤ} → length t ≤ length u → Accepted ps t → Accepted ps u
-accepted-longer h a =
+-- of a table only its length matters
+pub buildable-longer : {ps t u : List ℤ} → length t ≤ length u → Buildable ps t → Buildable ps u
+buildable-longer h a =
     let l = a .lengths in record {
       lengths = record {
         even = l .even;
@@ -80,21 +76,15 @@ accepted-longer h a =
       differ = a .differ;
     }
 
--- a table built without refusal is accepted again
-pub built-accepted : (ps t : List ℤ) → buildRefusal ps t ≡ none → Accepted ps (builtTable ps t)
-built-accepted ps t e = accepted-longer (omega (arith, built-length ps t)) (accepted ps t e)
-
--- and passes the checks of lengths that a question makes, as whichever line
-pub built-passes : (l : Line) (ps t : List ℤ) → buildRefusal ps t ≡ none
-    → firstRefusal (lengthChecks l ps (builtTable ps t)) ≡ none
-built-passes l ps t e =
-    let u = builtTable ps t in clear-none (lengthChecks l ps u) (lengths-clear l ps u (built-accepted ps t e .lengths))
+-- a line can be built again into the table built from it
+pub built-buildable : (ps t : List ℤ) → buildRefusal ps t ≡ none → Buildable ps (builtTable ps t)
+built-buildable ps t e = buildable-longer (omega (arith, built-length ps t)) (buildable ps t e)
 
 -- building again changes nothing
 pub built-twice : (ps t : List ℤ) → builtTable ps (builtTable ps t) ≡ builtTable ps t
 built-twice ps t =
     by-refusal ps t
     (λ e.
-    built-whole ps (builtTable ps t) (none-refused ps (builtTable ps t) (built-accepted ps t e))
+    built-whole ps (builtTable ps t) (none-refused ps (builtTable ps t) (built-buildable ps t e))
     ∙ ap (tableOf ps ++_) (built-rest ps t) ∙ sym (built-whole ps t e))
     (λ r e. ap (builtTable ps) (built-refused ps t r e))

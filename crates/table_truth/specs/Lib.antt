@@ -1,4 +1,4 @@
 -- What the theorems about the described table say.
 pub mod BestSplit
 pub mod Lowest
-pub mod Accepted
+pub mod Buildable

@@ -15,7 +15,7 @@ use Rattle.rules.specs.declared.Line.the-variants.{LineA, LineB}
 use Rattle.rules.specs.declared.Refusal.{Refusal}
 use Rattle.rules.specs.Sheet.{pointsOf, segmentsOf, fewest, most}
 use Rattle.rules.specs.Tree.{width, rowCount}
-use Rattle.rules.specs.Reply.{Check, early, firstRefusal}
+use Rattle.rules.specs.Reply.{Check, early, firstRefusal, orElse}
 use Rattle.rules.specs.Rows.{lengthChecks}
 use Rattle.visits.specs.Fine.{LengthsFine}
 pub use Rattle.visits.specs.Clear.{Clear}
@@ -44,11 +44,6 @@ clear-parts (k ∷ ks) ls c = let h = clear-parts ks ls (c .1) in ((c .0, h .0),
 pub clear-whole : (ks ls : List Check) → Clear ks → Clear ls → Clear (ks ++ ls)
 clear-whole [] ls c d = d
 clear-whole (k ∷ ks) ls c d = (c .0, clear-whole ks ls (c .1) d)
-
--- what one option says, or else the other
-abbrev pub orElse : {A : Type 0} → Option A → Option A → Option A
-orElse none r = r
-orElse (some a) r = some a
 
 -- two lists of checks in a row refuse what the first does, and else what the second does
 pub first-append : (ks ls : List Check) → firstRefusal (ks ++ ls) ≡ orElse (firstRefusal ks) (firstRefusal ls)

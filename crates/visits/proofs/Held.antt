@@ -11,8 +11,7 @@ use Rattle.rules.specs.declared.Row.{Row}
 use Rattle.rules.specs.Plane.{direction, cAt, tAt}
 use Rattle.rules.specs.Sheet.{point}
 use Rattle.rules.specs.Tree.{nodeC, nodeT}
-use Rattle.rules.specs.Build.{holdsNumber, holdsPoint}
-use Rattle.visits.proofs.Tests.{four-yes}
+use Rattle.rules.specs.Build.{holdsNumber, stripHolds, boxHolds, holdsPoint}
 
 -- v lies between lo and hi
 abbrev pub Within : ℤ → ℤ → ℤ → Type 0
@@ -37,12 +36,14 @@ pub held : (r : Row) (ps : List ℤ) (first last : ℕ) (p : Point)
     → T (holdsPoint r ps first last p) → Held r (point ps first) (direction (point ps first) (point ps last)) p
 unfolding holdsPoint
 held r ps first last p h =
-    let q = four-yes
-    (holdsNumber (r .cmin) (r .cmax) (nodeC ps first last p)) (holdsNumber (r .tmin) (r .tmax) (nodeT ps first last p))
-    (holdsNumber (r .xmin) (r .xmax) (p .x)) (holdsNumber (r .ymin) (r .ymax) (p .y)) h in
+    let c = nodeC ps first last p in
+    let t = nodeT ps first last p in
+    let q = and-yes (stripHolds r c t) (boxHolds r p) h in
+    let strip = and-yes (holdsNumber (r .cmin) (r .cmax) c) (holdsNumber (r .tmin) (r .tmax) t) (q .0) in
+    let box = and-yes (holdsNumber (r .xmin) (r .xmax) (p .x)) (holdsNumber (r .ymin) (r .ymax) (p .y)) (q .1) in
     record {
-      c = number-held (r .cmin) (r .cmax) (nodeC ps first last p) (q .0);
-      t = number-held (r .tmin) (r .tmax) (nodeT ps first last p) (q .1);
-      x = number-held (r .xmin) (r .xmax) (p .x) (q .2);
-      y = number-held (r .ymin) (r .ymax) (p .y) (q .3);
+      c = number-held (r .cmin) (r .cmax) c (strip .0);
+      t = number-held (r .tmin) (r .tmax) t (strip .1);
+      x = number-held (r .xmin) (r .xmax) (p .x) (box .0);
+      y = number-held (r .ymin) (r .ymax) (p .y) (box .1);
     }

@@ -18,7 +18,7 @@ use Rattle.rules.specs.Sheet.{point, segmentsOf, onSheet, inSheet}
 use Rattle.rules.specs.Tree.{rowAt, rowCount}
 use Rattle.rules.specs.Rows.{rangeGood, splitGood, stripGood, sideGood, boxGood, endsGood, leafGood, good}
 use Rattle.rules.specs.Questions.{root, leftOf, rightOf, leaf, size, splitIn}
-use Rattle.rules.specs.Build.{holdsPoint, holdsRun, soundFrom}
+use Rattle.rules.specs.Build.{holdsPoint, rowHolds, soundFrom}
 use Rattle.visits.specs.Nodes.{Inner, Fits, RowGood, HoldsStart}
 use Rattle.visits.specs.Reached.{leftHalf, rightHalf}
 use Rattle.visits.proofs.Tests.{four-yes}
@@ -119,13 +119,14 @@ pub record SoundNode (f : ℕ) (ps t : List ℤ) (n : Node) : Type 0 where
 
 pub sound-read : (f : ℕ) (ps t : List ℤ) (n : Node) → n .first < n .last → T (soundFrom (suc f) ps t n)
     → SoundNode f ps t n
-unfolding soundFrom holdsRun
+unfolding soundFrom rowHolds
 sound-read f ps t n l h =
     let row = good ps (rowAt t (n .row)) (n .first) (n .last) in
     let left = soundFrom f ps t (leftHalf t n) in
     let right = soundFrom f ps t (rightHalf t n) in
-    let q = and-yes (row && holdsRun ps t n) (cond (leaf n) true (left && right)) h in
-    let g = and-yes row (holdsRun ps t n) (q .0) in
+    let held = rowHolds ps (rowAt t (n .row)) (n .first) (n .last) in
+    let q = and-yes (row && held) (cond (leaf n) true (left && right)) h in
+    let g = and-yes row held (q .0) in
     record {
       row-good = g .0;
       holds = λ i a b. everyOf-read _ (n .first) (suc (size n)) (g .1) i a (omega arith);

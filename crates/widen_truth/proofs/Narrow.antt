@@ -26,7 +26,7 @@ use Rattle.visits.proofs.Checks.{_then_}
 use Rattle.table_truth.proofs.Rows.{split-between}
 use Rattle.table_truth.proofs.Refusals.{some-segment}
 use Rattle.table_truth.proofs.Extents.{run-all}
-use Rattle.widen_truth.proofs.Widened.{old-on, old-accepted}
+use Rattle.widen_truth.proofs.Widened.{old-on, old-buildable}
 
 -- ---------------- the measured row of a run on the sheet
 
@@ -108,7 +108,7 @@ module _ (ps : List ℤ) (segments : ℕ) (few : segments ≤ most)
 pub old-fits : (ps t : List ℤ) → oldRefusal ps t ≡ none → AllFit (tableOf ps)
 unfolding tableOf
 old-fits ps t e =
-    let a = old-accepted ps t e in
+    let a = old-buildable ps t e in
     rows-fit ps (segmentsOf ps) (omega (arith, a .lengths .not-more))
     (λ i h. old-on ps t e i (omega (arith, a .lengths .some-points))) (segmentsOf ps) 0 (segmentsOf ps) (some-segment a)
     (omega arith)

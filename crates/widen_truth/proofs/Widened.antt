@@ -21,9 +21,9 @@ use Rattle.rules.specs.Build.{equalNext, tableOf, buildRefusal, builtTable, unl
 use Rattle.rules.specs.Old.{oldLimit, onOldSheet, oldChecks, oldRefusal, oldTable, widenCheck, widenRefusal, widened}
 use Rattle.limits.proofs.OnSheets.{between-abs, abs-between}
 use Rattle.visits.proofs.Checks.{Clear, _then_, none-clear, clear-none, lengths-read}
-use Rattle.table_truth.specs.Accepted.{Accepted, rowNumbers}
+use Rattle.table_truth.specs.Buildable.{Buildable, rowNumbers}
 use Rattle.table_truth.proofs.Refusals.{none-has, none-refused}
-use Rattle.table_truth.proofs.Table.{built-whole, built-length, accepted-longer}
+use Rattle.table_truth.proofs.Table.{built-whole, built-length, buildable-longer}
 
 -- ---------------- the old sheet lies on the new one
 
@@ -50,8 +50,8 @@ module _ (ps t : List ℤ) (e : oldRefusal ps t ≡ none) where
       (none-has (λ i. not (onOldSheet (point ps i))) (pointsOf ps) (clear .1 .1 .1 .0) i h)
 
   -- and all that the builder asks now holds
-  pub old-accepted : Accepted ps t
-  old-accepted =
+  pub old-buildable : Buildable ps t
+  old-buildable =
       let c = clear in
       let later = c .1 .1 .1 in
       record {
@@ -65,7 +65,7 @@ module _ (ps t : List ℤ) (e : oldRefusal ps t ≡ none) where
   unfolding oldTable
   old-same =
       ap (λ r. unlessRefused r (tableOf ps ++ drop (rowNumbers ps) t) t) e
-      ∙ sym (built-whole ps t (none-refused ps t old-accepted))
+      ∙ sym (built-whole ps t (none-refused ps t old-buildable))
 
 -- ---------------- widening
 
@@ -94,13 +94,13 @@ widened-same old new e =
 pub widened-built : (ps t new : List ℤ) → oldRefusal ps t ≡ none → widenRefusal t new ≡ none
     → (buildRefusal ps (widened t new) ≡ none) × (builtTable ps (widened t new) ≡ widened (oldTable ps t) new)
 widened-built ps t new e r =
-    let a = old-accepted ps t e in
+    let a = old-buildable ps t e in
     let u = widened t new in
     let k = rowNumbers ps in
     let room = widened-room t new r in
     let whole = widened-whole t new r in
     let long : length t ≤ length u = rw whole (omega (arith, length-append t (drop (length t) new))) in
-    let taken = none-refused ps u (accepted-longer long a) in
+    let taken = none-refused ps u (buildable-longer long a) in
     let same = old-same ps t e in
     let many : length (oldTable ps t) ≡ length t = ap length same ∙ built-length ps t in
     let wide = widened-whole (oldTable ps t) new (room-widens (oldTable ps t) new (omega arith)) in

@@ -103,6 +103,14 @@ pub fn sound_line(random: &mut Random) -> Vec<i64> {
     points.iter().flat_map(|p| [p.x, p.y]).collect()
 }
 
+/// A line of that many points whose built tree is as deep as can be: each node splits at its second point.
+pub fn comb(count: usize) -> Vec<i64> {
+    let last = count as i64 - 1;
+    // Roots lie on one straight line, tips on another, and the last point on both: from either line the
+    // next point is the farthest.
+    (0..=last).flat_map(|i| [i, i % 2 * (last - i)]).collect()
+}
+
 pub(super) fn shaped(random: &mut Random, shape: Shape) -> Vec<Point> {
     let places = match shape {
         Fixed(make) => make(random),
@@ -604,6 +612,19 @@ mod tests {
                 .any(|p| p[0].x.abs_diff(p[1].x) == 2_000_000)
         };
         assert!(lines.iter().filter(across).count() > 100);
+    }
+
+    #[test]
+    fn combs_have_a_level_for_each_segment() {
+        for count in [2, 3, 4, 5, 64, 129, 4_097] {
+            let mut table = vec![0; ROW * rows(count - 1)];
+            assert_eq!(build(Name::A, &comb(count), &mut table), Ok(()));
+            // After each row stands the leaf of its first segment.
+            for (first, node) in table.chunks(2 * ROW).enumerate() {
+                let last = count as i64 - 1;
+                assert_eq!(node[..2], [first as i64, last]);
+            }
+        }
     }
 
     #[test]

@@ -17,14 +17,12 @@ use Rattle.rules.specs.declared.Refusal.{Refusal}
 use Rattle.rules.specs.declared.Tally.{Tally}
 use Rattle.rules.specs.Sheet.{pointsOf, farthest, distanceFits}
 use Rattle.rules.specs.declared.Reply.{Reply}
-use Rattle.rules.specs.Reply.{firstRefusal, orRefused, refuses}
+use Rattle.rules.specs.Reply.{checkedRefusal, firstRefusal, orRefused, refuses, orElse}
 use Rattle.rules.specs.Rows.{lengthChecks}
 use Rattle.rules.specs.Walk.{fresh}
 use Rattle.rules.specs.Questions.{Asked, askAll, onAllNear, agreed, agreeWalk, agreeReply}
-use Rattle.visits.proofs.Checks.{orElse}
-use Rattle.line.specs.declared.Checked.the-variants.{Fine}
+use Rattle.rules.specs.declared.Checked.the-variants.{Fine}
 use Rattle.visits.specs.Fine.{LengthsFine}
-use Rattle.line.specs.Checked.{checkedRefusal}
 use Rattle.line.proofs.Lengths.{lengths-fine}
 use Rattle.line.proofs.Stored.{stored-abs}
 use Rattle.ending.specs.Ending.{endIn}

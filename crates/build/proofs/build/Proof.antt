@@ -5,12 +5,12 @@ use mathlib.Core.Option.{none}
 use native.Mathlib.Nat.{sub-zero}
 use native.Mathlib.Omega.{arith}
 use lib.IntN.{ℤ}
-use Rattle.rules.specs.declared.Built.the-variants.{Written}
+use Rattle.rules.specs.declared.Checked.the-variants.{Fine}
 use Rattle.rules.specs.Sheet.{segmentsOf}
-use Rattle.rules.specs.Reply.{builtRefusal}
+use Rattle.rules.specs.Reply.{checkedRefusal}
 use Rattle.rules.specs.Build.{buildRefusal, tableOf}
-use Rattle.table_truth.specs.Accepted.{Accepted}
-use Rattle.table_truth.proofs.Refusals.{accepted}
+use Rattle.table_truth.specs.Buildable.{Buildable}
+use Rattle.table_truth.proofs.Refusals.{buildable}
 use Rattle.table_truth.proofs.Table.{built-refused, built-whole}
 use borrow.Author.Needs.{needs}
 use Rattle.build.proofs.build.Statement.{statement}
@@ -27,7 +27,7 @@ returns : tie.Need-returns
 returns c =
     let checked = c .before .before .before in
     let s = checked .before in
-    let e = sym (checked .check .ensures (table s) refl) ∙ ap builtRefusal (c .before .checked .given .1) in
+    let e = sym (checked .check .ensures (table s) refl) ∙ ap checkedRefusal (c .before .checked .given .1) in
     (sym e, sym (built-refused (points s) (table s) _ e))
 
 -- past the checks
@@ -36,11 +36,11 @@ start c = c .before .before .before
 
 passed : (c : tie.After-enum-told) → buildRefusal (points (start c)) (table (start c)) ≡ none
 passed c =
-    let w : c .before .before .check .result ≡ Written = cc in
-    sym (c .before .before .check .ensures (table (start c)) refl) ∙ ap builtRefusal w
+    let w : c .before .before .check .result ≡ Fine = cc in
+    sym (c .before .before .check .ensures (table (start c)) refl) ∙ ap checkedRefusal w
 
-fine : (c : tie.After-enum-told) → Accepted (points (start c)) (table (start c))
-fine c = accepted _ _ (passed c)
+fine : (c : tie.After-enum-told) → Buildable (points (start c)) (table (start c))
+fine c = buildable _ _ (passed c)
 
 build-node-requires : tie.Need-build-node-requires
 build-node-requires c κs =

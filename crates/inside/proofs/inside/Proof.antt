@@ -8,11 +8,10 @@ use borrow.Author.Tests.{not-true, not-false}
 use Rattle.integers.specs.Order.{T-true}
 use Rattle.rules.specs.declared.Line.the-variants.{LineA}
 use Rattle.rules.specs.Sheet.{onSheet}
-use Rattle.rules.specs.Reply.{refuses, firstRefusal}
+use Rattle.rules.specs.Reply.{checkedRefusal, refuses, firstRefusal}
 use Rattle.rules.specs.Rows.{lengthChecks}
-use Rattle.line.specs.declared.Checked.{Checked}
-use Rattle.line.specs.declared.Checked.the-variants.{Fine}
-use Rattle.line.specs.Checked.{checkedRefusal}
+use Rattle.rules.specs.declared.Checked.{Checked}
+use Rattle.rules.specs.declared.Checked.the-variants.{Fine}
 use Rattle.visits.specs.Fine.{LengthsFine}
 use Rattle.line.proofs.Lengths.{lengths-fine}
 use Rattle.limits.proofs.OnSheets.{on-sheet}

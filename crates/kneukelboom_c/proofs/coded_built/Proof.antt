@@ -11,6 +11,9 @@ use Rattle.kneukelboom_c.proofs.coded_built.Tie as tie
 came : {b o : Built} → o ≡ b → codedBuild (builtRefusal b) ≡ codedBuild (builtRefusal o)
 came e = sym (ap (λ (b : Built). codedBuild (builtRefusal b)) e)
 
+returns : tie.Need-returns
+returns c = c .unrefused .ensures ∙ came (c .before .enum-told .given .1)
+
 returns-2 : tie.Need-returns-2
 returns-2 c =
     let k = c .before .before .before in
@@ -18,5 +21,5 @@ returns-2 c =
 
 pub coded-built-spec : {M : Type 1} → statement M
 coded-built-spec =
-    tie.close (tie.spec (search needs) (search needs) (search needs) (search needs)
-    (λ c. came (c .enum-told .given .1)) returns-2)
+    tie.close (tie.spec
+    (search needs) (search needs) (search needs) (search needs) (search needs) returns returns-2)

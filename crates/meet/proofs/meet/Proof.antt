@@ -2,10 +2,9 @@
 use mathlib.Core.Path.{_≡_, refl, sym, _∙_, ap}
 use mathlib.Core.Option.{none}
 use Rattle.rules.specs.declared.Line.the-variants.{LineA, LineB}
-use Rattle.rules.specs.Reply.{firstRefusal}
+use Rattle.rules.specs.Reply.{checkedRefusal, firstRefusal}
 use Rattle.rules.specs.Rows.{lengthChecks}
-use Rattle.line.specs.declared.Checked.the-variants.{Fine}
-use Rattle.line.specs.Checked.{checkedRefusal}
+use Rattle.rules.specs.declared.Checked.the-variants.{Fine}
 use Rattle.visits.specs.Fine.{LengthsFine}
 use Rattle.line.proofs.Lengths.{lengths-fine}
 use Rattle.meet.proofs.Replies.{meet-checked}

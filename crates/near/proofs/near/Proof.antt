@@ -12,14 +12,12 @@ use Rattle.rules.specs.declared.Line.the-variants.{LineA, LineB}
 use Rattle.rules.specs.declared.Refusal.{Refusal}
 use Rattle.rules.specs.Sheet.{distanceFits, onSheet}
 use Rattle.rules.specs.declared.Reply.{Reply}
-use Rattle.rules.specs.Reply.{firstRefusal, orRefused, refuses}
+use Rattle.rules.specs.Reply.{checkedRefusal, firstRefusal, orRefused, refuses, orElse}
 use Rattle.rules.specs.Rows.{lengthChecks}
 use Rattle.rules.specs.Walk.{Walked, fresh}
 use Rattle.rules.specs.Questions.{Nothing, yesOrNo, nearWalk, nearReply}
-use Rattle.line.specs.declared.Checked.the-variants.{Fine}
+use Rattle.rules.specs.declared.Checked.the-variants.{Fine}
 use Rattle.visits.specs.Fine.{LengthsFine}
-use Rattle.line.specs.Checked.{checkedRefusal}
-use Rattle.visits.proofs.Checks.{orElse}
 use Rattle.limits.proofs.OnSheets.{on-sheet}
 use Rattle.line.proofs.Stored.{stored-abs}
 use Rattle.reach.proofs.Sizes.{distance-abs}

@@ -12,7 +12,7 @@ use Rattle.rules.specs.Reply.{builtRefusal}
 use Rattle.rules.specs.declared.Refusal.{Refusal}
 use Rattle.rules.specs.declared.Reply.{Reply}
 use Rattle.rules.specs.Build.{buildRefusal, tableOf, builtTable}
-use Rattle.table_truth.specs.Accepted.{rowNumbers}
+use Rattle.table_truth.specs.Buildable.{rowNumbers}
 use Rattle.desk.specs.Desk.{Store, refusedAt, onBuild, withTable}
 use Rattle.desk.specs.Kept.{storeIn}
 use Rattle.ready.proofs.Tables.{rows-fit, with-table, ready-is, table-is, kept-same}

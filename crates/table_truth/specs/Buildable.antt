@@ -13,7 +13,7 @@ use Rattle.visits.specs.Fine.{LengthsFine}
 abbrev pub rowNumbers : List ℤ → ℕ
 rowNumbers ps = width * rowCount (segmentsOf ps)
 
-pub record Accepted (ps t : List ℤ) : Type 0 where
+pub record Buildable (ps t : List ℤ) : Type 0 where
   pub lengths : LengthsFine ps t
   pub on : (i : ℕ) → i < pointsOf ps → onSheet (point ps i) ≡ true
   pub differ : (i : ℕ) → i < segmentsOf ps → samePoint (point ps i) (point ps (suc i)) ≡ false

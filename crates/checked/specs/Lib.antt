@@ -1,0 +1,2 @@
+-- What the theorems about the checker say.
+pub mod Faults

@@ -1,0 +1,2 @@
+-- What the contracts of the checker are said with.
+pub mod Found

@@ -1,2 +1,0 @@
--- What the contracts of `line` are said with.
-pub mod Checked
