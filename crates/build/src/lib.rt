@@ -3,21 +3,20 @@
 mod rows;
 
 use build_checks::check;
-use rules::Built;
 use rules::Checked;
 ghost use mathlib.Core.Path.{_≡_};
 ghost use Rattle.rules.specs.Build.{buildRefusal, builtTable};
-ghost use Rattle.rules.specs.Reply.{builtRefusal};
+ghost use Rattle.rules.specs.Reply.{checkedRefusal};
 
-pub fn build(points: &[i64], table: &mut [i64]) -> Built
-    ensures { λ r. ⌜ builtRefusal r ≡ buildRefusal (now (points .entry)) (now (table .entry)) ⌝ }
+pub fn build(points: &[i64], table: &mut [i64]) -> Checked
+    ensures { λ r. ⌜ checkedRefusal r ≡ buildRefusal (now (points .entry)) (now (table .entry)) ⌝ }
     ensures { λ _. ⌜ now (table .exit) ≡ builtTable (now (points .entry)) (now (table .entry)) ⌝ }
 {
     let checked = check(points, table.len());
     if let Checked::Refused(refusal) = checked {
-        return Built::Refused(refusal);
+        return Checked::Refused(refusal);
     }
     let last = points.len() / 2 - 1;
     rows::build_node(&points, 0, last, table);
-    Built::Written
+    Checked::Fine
 }

@@ -96,6 +96,18 @@ module _ (ps t : List ℤ) where
     abbrev g : RowGood ps t n
     g = fine .0
 
+    -- what is found in a half is found in the node
+    from-half : {half : Node} {f : Refusal} (h : Found half f) → Under ps t n (h .node)
+        → ((m : Node) → Under ps t n m → m .row < h .node .row → Fine m) → Found n f
+    from-half h under lower = record {
+      node = h .node;
+      number = h .number;
+      under = under;
+      at-fault = h .at-fault;
+      told = h .told;
+      lower = lower;
+    }
+
     halves : (o p : Option Refusal) → Finds (leftHalf t n) o → Finds (rightHalf t n) p → Finds n (orElse o p)
     halves none none a b = each
       where
@@ -103,27 +115,13 @@ module _ (ps t : List ℤ) where
         each m here = fine
         each m (on-left _ _ u) = a m u
         each m (on-right _ _ u) = b m u
-    halves none (some f) a b = record {
-      node = b .node;
-      number = b .number;
-      under = on-right g more (b .under);
-      at-fault = b .at-fault;
-      told = b .told;
-      lower = each;
-    }
+    halves none (some f) a b = from-half b (on-right g more (b .under)) each
       where
         each : (m : Node) → Under ps t n m → m .row < b .node .row → Fine m
         each m here l = fine
         each m (on-left _ _ u) l = a m u
         each m (on-right _ _ u) l = b .lower m u l
-    halves (some f) p a b = record {
-      node = a .node;
-      number = a .number;
-      under = on-left g more (a .under);
-      at-fault = a .at-fault;
-      told = a .told;
-      lower = each;
-    }
+    halves (some f) p a b = from-half a (on-left g more (a .under)) each
       where
         each : (m : Node) → Under ps t n m → m .row < a .node .row → Fine m
         each m here l = fine

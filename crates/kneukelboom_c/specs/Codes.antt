@@ -34,9 +34,6 @@ coded r =
       place = r .place;
     }
 
-abbrev pub unrefused : KneukelboomReply
-unrefused = record { word = 0; visits = 0; number = 0; line = 0; place = 0 }
-
-abbrev pub codedBuild : Option Refusal → KneukelboomReply
-codedBuild none = unrefused
-codedBuild (some r) = coded (refuses r)
+abbrev pub codedChecked : Option Refusal → KneukelboomReply
+codedChecked none = record { word = 0; visits = 0; number = 0; line = 0; place = 0 }
+codedChecked (some r) = coded (refuses r)

@@ -1,6 +1,5 @@
 // The proved library for C, Rust and whatever links them: slices as pointer and length, replies as one struct of plain
 // numbers. No call requires anything of its numbers: whatever is passed is answered.
-use rules::Built;
 use rules::Checked;
 use rules::Line;
 use rules::Point;
@@ -11,9 +10,9 @@ ghost use mathlib.Core.Path.{_≡_};
 ghost use Rattle.rules.specs.Build.{buildRefusal, builtTable};
 ghost use Rattle.rules.specs.Old.{widenRefusal, widened};
 ghost use Rattle.rules.specs.Check.{checkRefusal};
-ghost use Rattle.rules.specs.Reply.{builtRefusal, checkedRefusal};
+ghost use Rattle.rules.specs.Reply.{checkedRefusal};
 ghost use Rattle.rules.specs.Questions.{nearReply, meetReply, inReply, agreeReply};
-ghost use Rattle.kneukelboom_c.specs.Codes.{wordCode, lineCode, coded, unrefused, codedBuild};
+ghost use Rattle.kneukelboom_c.specs.Codes.{wordCode, lineCode, coded, codedChecked};
 
 // What a call answers, in numbers: the word's code, the visits, the refusal number or 0, the line's code, and the
 // place or 0.
@@ -65,58 +64,41 @@ fn coded(reply: Reply) -> KneukelboomReply
     }
 }
 
-// A table is written, or accepted.
-fn unrefused() -> KneukelboomReply
-    ensures { λ r. ⌜ r ≡ unrefused ⌝ }
-{
-    KneukelboomReply {
-        word: 0,
-        visits: 0,
-        number: 0,
-        line: 0,
-        place: 0,
-    }
-}
-
-// What a build or a widening came to, in numbers.
-fn coded_built(built: Built) -> KneukelboomReply
-    ensures { λ r. ⌜ r ≡ codedBuild (builtRefusal built) ⌝ }
-{
-    match built {
-        Built::Written => unrefused(),
-        Built::Refused(refusal) => coded(refuses(refusal)),
-    }
-}
-
-// What the checker came to, in numbers.
+// What the checks of a build, of a widening or of a table came to, in numbers.
 fn coded_checked(checked: Checked) -> KneukelboomReply
-    ensures { λ r. ⌜ r ≡ codedBuild (checkedRefusal checked) ⌝ }
+    ensures { λ r. ⌜ r ≡ codedChecked (checkedRefusal checked) ⌝ }
 {
     match checked {
-        Checked::Fine => unrefused(),
+        Checked::Fine => KneukelboomReply {
+            word: 0,
+            visits: 0,
+            number: 0,
+            line: 0,
+            place: 0,
+        },
         Checked::Refused(refusal) => coded(refuses(refusal)),
     }
 }
 
 #[no_mangle]
 pub extern "C" fn kneukelboom_widen_v2(old: &[i32], new: &mut [i64]) -> KneukelboomReply
-    ensures { λ r. ⌜ r ≡ codedBuild (widenRefusal (now (old .entry)) (now (new .entry))) ⌝ }
+    ensures { λ r. ⌜ r ≡ codedChecked (widenRefusal (now (old .entry)) (now (new .entry))) ⌝ }
     ensures { λ _. ⌜ now (new .exit) ≡ widened (now (old .entry)) (now (new .entry)) ⌝ }
 {
-    coded_built(widen::widen(old, new))
+    coded_checked(widen::widen(old, new))
 }
 
 #[no_mangle]
 pub extern "C" fn kneukelboom_build_v2(points: &[i64], table: &mut [i64]) -> KneukelboomReply
-    ensures { λ r. ⌜ r ≡ codedBuild (buildRefusal (now (points .entry)) (now (table .entry))) ⌝ }
+    ensures { λ r. ⌜ r ≡ codedChecked (buildRefusal (now (points .entry)) (now (table .entry))) ⌝ }
     ensures { λ _. ⌜ now (table .exit) ≡ builtTable (now (points .entry)) (now (table .entry)) ⌝ }
 {
-    coded_built(build::build(points, table))
+    coded_checked(build::build(points, table))
 }
 
 #[no_mangle]
 pub extern "C" fn kneukelboom_check_v2(points: &[i64], table: &[i64]) -> KneukelboomReply
-    ensures { λ r. ⌜ r ≡ codedBuild (checkRefusal (now (points .entry)) (now (table .entry))) ⌝ }
+    ensures { λ r. ⌜ r ≡ codedChecked (checkRefusal (now (points .entry)) (now (table .entry))) ⌝ }
 {
     coded_checked(checker::check(points, table))
 }

@@ -4,7 +4,7 @@
 // nothing.
 use desk::Held;
 use limits::WIDTH;
-use rules::Built;
+use rules::Checked;
 use rules::Line;
 use rules::Refusal;
 use rules::Reply;
@@ -96,7 +96,7 @@ fn ready(line: Line, held: Held, points: &[i64], table: &mut [i64], place: usize
         return Readied::Told(refused(13, line, place, 0));
     }
     let built = build::build(stored(held, points), table);
-    if let Built::Refused(refusal) = built {
+    if let Checked::Refused(refusal) = built {
         return Readied::Told(refused(refusal.number, line, refusal.place, refusal.visits));
     }
     Readied::Ready

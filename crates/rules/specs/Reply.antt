@@ -7,8 +7,6 @@ use Prim.Native.Nat.{ℕ}
 use Rattle.rules.specs.declared.Line.{Line}
 use Rattle.rules.specs.declared.Line.the-variants.{NoLine}
 use Rattle.rules.specs.declared.Refusal.{Refusal}
-use Rattle.rules.specs.declared.Built.{Built}
-use Rattle.rules.specs.declared.Built.the-variants as built
 use Rattle.rules.specs.declared.Checked.{Checked}
 use Rattle.rules.specs.declared.Checked.the-variants as checked
 use Rattle.rules.specs.declared.Word.{Word}
@@ -25,11 +23,7 @@ disagrees l i v = record { word = NO; visits = v; number = 0; line = l; place = 
 abbrev pub refuses : Refusal → Reply
 refuses r = record { word = REFUSED; visits = r .visits; number = r .number; line = r .line; place = r .place }
 
--- ---- the refusal of a build, if it is refused, and of checks, if one holds
-abbrev pub builtRefusal : Built → Option Refusal
-builtRefusal built.Written = none
-builtRefusal (built.Refused r) = some r
-
+-- ---- what checks come to: the refusal, if there is one
 abbrev pub checkedRefusal : Checked → Option Refusal
 checkedRefusal checked.Fine = none
 checkedRefusal (checked.Refused r) = some r

@@ -53,13 +53,7 @@ pub struct Refusal {
     pub visits: u32,
 }
 
-// What building answers.
-pub enum Built {
-    Written,
-    Refused(Refusal),
-}
-
-// What checks come to.
+// What checks come to: the first refusal, or that there is none. So answer the calls that write, and the checker.
 pub enum Checked {
     Fine,
     Refused(Refusal),

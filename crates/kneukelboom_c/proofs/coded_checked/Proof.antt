@@ -2,17 +2,14 @@
 use mathlib.Core.Path.{_≡_, sym, _∙_, ap}
 use Rattle.rules.specs.declared.Checked.{Checked}
 use Rattle.rules.specs.Reply.{checkedRefusal}
-use Rattle.kneukelboom_c.specs.Codes.{coded, codedBuild}
+use Rattle.kneukelboom_c.specs.Codes.{coded, codedChecked}
 use borrow.Author.Needs.{needs}
 use Rattle.kneukelboom_c.proofs.coded_checked.Statement.{statement}
 use Rattle.kneukelboom_c.proofs.coded_checked.Tie as tie
 
 -- by what came
-came : {b o : Checked} → o ≡ b → codedBuild (checkedRefusal b) ≡ codedBuild (checkedRefusal o)
-came e = sym (ap (λ (b : Checked). codedBuild (checkedRefusal b)) e)
-
-returns : tie.Need-returns
-returns c = c .unrefused .ensures ∙ came (c .before .enum-told .given .1)
+came : {b o : Checked} → o ≡ b → codedChecked (checkedRefusal b) ≡ codedChecked (checkedRefusal o)
+came e = sym (ap (λ (b : Checked). codedChecked (checkedRefusal b)) e)
 
 returns-2 : tie.Need-returns-2
 returns-2 c =
@@ -21,5 +18,5 @@ returns-2 c =
 
 pub coded-checked-spec : {M : Type 1} → statement M
 coded-checked-spec =
-    tie.close (tie.spec
-    (search needs) (search needs) (search needs) (search needs) (search needs) returns returns-2)
+    tie.close (tie.spec (search needs) (search needs) (search needs) (search needs)
+    (λ c. came (c .enum-told .given .1)) returns-2)

@@ -7,8 +7,8 @@ use mathlib.Core.Option.{Option, none}
 use Prim.Native.Nat.{_≤_}
 use lib.IntN.{ℤ}
 use lib.ListN.{length}
-use Rattle.rules.specs.declared.Built.the-variants.{Written}
-use Rattle.rules.specs.Reply.{builtRefusal}
+use Rattle.rules.specs.declared.Checked.the-variants.{Fine}
+use Rattle.rules.specs.Reply.{checkedRefusal}
 use Rattle.rules.specs.declared.Refusal.{Refusal}
 use Rattle.rules.specs.declared.Reply.{Reply}
 use Rattle.rules.specs.Build.{buildRefusal, tableOf, builtTable}
@@ -42,7 +42,7 @@ module _ (c : tie.After-build) where
   abbrev start : tie.Start
   start = let over = c .before .before .before in over .before .before
 
-  refusal : builtRefusal (c .build .result) ≡ buildRefusal (store start .points) (table start)
+  refusal : checkedRefusal (c .build .result) ≡ buildRefusal (store start .points) (table start)
   refusal =
       c .build .ensures .0 ∙ ap (λ (ps : List ℤ). buildRefusal ps (table start)) (c .before .before .stored .ensures)
 
@@ -71,7 +71,7 @@ returns-3 c =
     let b = c .before .before .before .before .before in
     let s = start b in
     let whole = b .before .before .before .if2 .left in
-    let e = sym (refusal b) ∙ ap builtRefusal (c .before .before .built .given .1) in
+    let e = sym (refusal b) ∙ ap checkedRefusal (c .before .before .built .given .1) in
     record {
       reply = λ go. c .refused2 .ensures ∙ asked s go whole e;
       goes = ready-is (store s) (table s) whole e;
@@ -83,8 +83,8 @@ returns-4 c =
     let b = c .before .before .before in
     let s = start b in
     let whole = b .before .before .before .if2 .left in
-    let w : b .build .result ≡ Written = cc in
-    let e : buildRefusal (store s .points) (table s) ≡ none = sym (refusal b) ∙ ap builtRefusal w in
+    let w : b .build .result ≡ Fine = cc in
+    let e : buildRefusal (store s .points) (table s) ≡ none = sym (refusal b) ∙ ap checkedRefusal w in
     record {
       reply = λ go. asked s go whole e;
       goes = ready-is (store s) (table s) whole e;
