@@ -23,7 +23,7 @@ $(ARCHIVE): $(SOURCES)
 	rt staticlib kneukelboom_c
 	@touch $@
 
-# what the archive exports, which is the nine calls, and no other library
+# what the archive exports, which is the seven calls, and no other library
 $(OUT)/$(SONAME): $(ARCHIVE)
 	@mkdir -p $(OUT)
 	$(CC) $(LDFLAGS) -shared -nostdlib -Wl,-soname,$(SONAME),-z,defs,--whole-archive $(ARCHIVE) -o $@

@@ -14,13 +14,13 @@ static const char *const words[] = {"built", "yes", "no", "inside", "outside", "
 /* The ring (0,0) (4,0) (4,4) (0,4) (0,0), and a table that splits at its points 1, 2 and 3; the builder splits at 2. */
 static const int64_t points[POINTS_LEN] = {0, 0, 4, 0, 4, 4, 0, 4, 0, 0};
 static int64_t other[TABLE_LEN] = {
-    0, 4, 1,  0,   4, 0, 4,  0, 4, 0, 4, 16, /* row 0, the root, */
-    0, 1, -1, 0,   0, 0, 16, 0, 4, 0, 0, 16, /* its left half */
-    1, 4, 2,  -16, 0, 0, 16, 0, 4, 0, 4, 16, /* and its right half; row 2 */
-    1, 2, -1, 0,   0, 0, 16, 4, 4, 0, 4, 16, /* has a left half */
-    2, 4, 3,  -16, 0, 0, 32, 0, 4, 0, 4, 16, /* and a right half, row 4, */
-    2, 3, -1, 0,   0, 0, 16, 0, 4, 4, 4, 16, /* and that */
-    3, 4, -1, 0,   0, 0, 16, 0, 0, 0, 4, 16  /* has two more */
+    0, 4, 1,  0,   4, 0, 4,  0, 4, 0, 4, /* row 0, the root, */
+    0, 1, -1, 0,   0, 0, 16, 0, 4, 0, 0, /* its left half */
+    1, 4, 2,  -16, 0, 0, 16, 0, 4, 0, 4, /* and its right half; row 2 */
+    1, 2, -1, 0,   0, 0, 16, 4, 4, 0, 4, /* has a left half */
+    2, 4, 3,  -16, 0, 0, 32, 0, 4, 0, 4, /* and a right half, row 4, */
+    2, 3, -1, 0,   0, 0, 16, 0, 4, 4, 4, /* and that */
+    3, 4, -1, 0,   0, 0, 16, 0, 0, 0, 4  /* has two more */
 };
 static int64_t built[TABLE_LEN];
 

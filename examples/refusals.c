@@ -3,7 +3,7 @@
 #include <stdio.h>
 
 int main(void) {
-    for (unsigned number = 0; number <= KNEUKELBOOM_REFUSED_SHORT_LIST + 1; number++)
+    for (unsigned number = 0; number <= KNEUKELBOOM_REFUSED_POINT_LEFT_OUT + 1; number++)
         printf("%u: %s\n", number, kneukelboom_sentence(number));
     return 0;
 }

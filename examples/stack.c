@@ -28,18 +28,14 @@ typedef struct line {
 } line;
 
 typedef struct question {
-    enum { NOTHING, BUILD, WIDEN, CHECK, COMPLETE, NEAR, INSIDE, MEET, AGREE, LONGER } call;
+    enum { NOTHING, BUILD, WIDEN, CHECK, NEAR, INSIDE, MEET, AGREE } call;
     line *a;
     const line *b;
     kneukelboom_reply reply;
 } question;
 
-/* Points of version 1, and a table of version 2. */
+/* Points of version 1. */
 static int32_t old[NUMBERS];
-static int64_t old_table[KNEUKELBOOM_OLD_TABLE_LEN(NUMBERS)];
-
-/* Where all segments are listed. */
-static int64_t list[SEGMENTS];
 
 static unsigned failures = 0;
 
@@ -82,54 +78,31 @@ static void make_flat_ring(line *l, int64_t height) {
     close_ring(l);
 }
 
-/* The greatest squared length of the segments from a point to another. */
-static int64_t longest(const line *l, int64_t first, int64_t last) {
-    int64_t most = 0;
-    for (const int64_t *p = &l->points[2 * first]; p < &l->points[2 * last]; p += 2) {
-        int64_t dx = p[2] - p[0], dy = p[3] - p[1], length = dx * dx + dy * dy;
-        most = length > most ? length : most;
-    }
-    return most;
-}
-
-/* Rows that dismiss no point, right by every rule, with every split next to the last point: no walk can go deeper. */
+/* Rows that dismiss nothing, good by every rule, with every split next to the last point: no walk can go deeper. */
 static void make_table_without_end(line *l) {
     const int64_t sheet = KNEUKELBOOM_SHEET;
     for (int64_t r = 0; r < 2 * SEGMENTS - 1; r++) {
         int leaf = r >= SEGMENTS - 1;
         int64_t first = leaf ? r - (SEGMENTS - 1) : 0;
         int64_t last = leaf ? first + 1 : SEGMENTS - r;
-        int64_t split = leaf ? -1 : last - 1;
-        const int64_t row[KNEUKELBOOM_ROW_WIDTH] = {
-            first,  last,  split,  INT64_MIN, INT64_MAX, INT64_MIN, INT64_MAX,
-            -sheet, sheet, -sheet, sheet,     longest(l, first, last)};
+        const int64_t row[KNEUKELBOOM_ROW_WIDTH] = {first,     last,      leaf ? -1 : last - 1, INT64_MIN,
+                                                    INT64_MAX, INT64_MIN, INT64_MAX,            -sheet,
+                                                    sheet,     -sheet,    sheet};
         memcpy(&l->table[r * KNEUKELBOOM_ROW_WIDTH], row, sizeof row);
-    }
-}
-
-/* The table of a line as version 2 had it. */
-static void make_old_table(const line *l) {
-    for (size_t r = 0; r < 2 * SEGMENTS - 1; r++) {
-        memcpy(&old_table[r * KNEUKELBOOM_OLD_ROW_WIDTH], &l->table[r * KNEUKELBOOM_ROW_WIDTH],
-               KNEUKELBOOM_OLD_ROW_WIDTH * sizeof *old_table);
     }
 }
 
 /* ---- levels */
 
-/* Build, meet and longer call themselves for either half of a node; the others go to a right half in its place. */
-static int calls_twice(const question *q) {
-    return q->call == BUILD || q->call == MEET || q->call == LONGER;
-}
-
-/* The levels of calls from a row on. */
-static size_t levels_from(const line *l, size_t row, int twice) {
+/* The levels of calls from a row on. A walk and the checker go to a right half in place of its node, a build calls
+ * itself twice. */
+static size_t levels_from(const line *l, size_t row, int walks) {
     const int64_t *r = &l->table[row * KNEUKELBOOM_ROW_WIDTH];
     if (r[2] < 0) {
         return 1;
     }
-    size_t left = 1 + levels_from(l, row + 1, twice);
-    size_t right = levels_from(l, row + 2 * (size_t)(r[2] - r[0]), twice) + (twice ? 1 : 0);
+    size_t left = 1 + levels_from(l, row + 1, walks);
+    size_t right = levels_from(l, row + 2 * (size_t)(r[2] - r[0]), walks) + (walks ? 0 : 1);
     return left > right ? left : right;
 }
 
@@ -138,8 +111,8 @@ static size_t levels_of(const question *q) {
     if (q->call == WIDEN) {
         return 1;
     }
-    size_t a = levels_from(q->a, 0, calls_twice(q));
-    size_t b = q->b == NULL ? 0 : levels_from(q->b, 0, calls_twice(q));
+    size_t a = levels_from(q->a, 0, q->call != BUILD);
+    size_t b = q->b == NULL ? 0 : levels_from(q->b, 0, 1);
     if (q->call == MEET) {
         return a + b - 1;
     }
@@ -148,7 +121,7 @@ static size_t levels_of(const question *q) {
 
 /* ---- stacks */
 
-/* The first point of A is the asked one: no node that begins there is dismissed; nor is any, where 0 is the length. */
+/* The first point of A is the asked one: no node that begins there is dismissed. */
 static void *ask(void *asked) {
     question *q = asked;
     line *a = q->a;
@@ -166,10 +139,6 @@ static void *ask(void *asked) {
     case CHECK:
         q->reply = kneukelboom_check(a->points, NUMBERS, a->table, TABLE_NUMBERS);
         break;
-    case COMPLETE:
-        q->reply = kneukelboom_complete(a->points, NUMBERS, old_table, KNEUKELBOOM_OLD_TABLE_LEN(NUMBERS), a->table,
-                                        TABLE_NUMBERS);
-        break;
     case NEAR:
         q->reply = kneukelboom_near(a->points, NUMBERS, a->table, TABLE_NUMBERS, x, y, 0, ALLOWANCE);
         break;
@@ -183,9 +152,6 @@ static void *ask(void *asked) {
     case AGREE:
         q->reply = kneukelboom_agree(a->points, NUMBERS, a->table, TABLE_NUMBERS, b->points, NUMBERS, b->table,
                                      TABLE_NUMBERS, 0, ALLOWANCE);
-        break;
-    case LONGER:
-        q->reply = kneukelboom_longer(a->points, NUMBERS, a->table, TABLE_NUMBERS, 0, list, SEGMENTS);
         break;
     }
     return NULL;
@@ -217,14 +183,12 @@ static size_t bound_of(const question *q) {
     switch (q->call) {
     case BUILD:
     case CHECK:
-    case COMPLETE:
         return KNEUKELBOOM_STACK_BUILD(SEGMENTS);
     case WIDEN:
         return KNEUKELBOOM_STACK_BUILD(0);
     case NEAR:
     case INSIDE:
     case AGREE:
-    case LONGER:
         return KNEUKELBOOM_STACK_WALK(SEGMENTS);
     case MEET:
         return KNEUKELBOOM_STACK_MEET(2 * SEGMENTS);
@@ -234,7 +198,7 @@ static size_t bound_of(const question *q) {
 }
 
 static void measure(const char *said, question q, uint32_t expected) {
-    question nothing = {.call = NOTHING, .a = q.a, .b = q.b};
+    question nothing = {NOTHING, q.a, q.b, {0, 0, 0, 0, 0}};
     size_t idle = bytes_of(&nothing);
     size_t bytes = bytes_of(&q) - idle;
     size_t levels = levels_of(&q);
@@ -251,40 +215,32 @@ static void measure(const char *said, question q, uint32_t expected) {
 
 int main(void) {
     static line a, b;
-    const question build = {.call = BUILD, .a = &a};
-    const question build_b = {.call = BUILD, .a = &b};
-    const question widen = {.call = WIDEN, .a = &a};
-    const question check = {.call = CHECK, .a = &a};
-    const question complete = {.call = COMPLETE, .a = &a};
-    const question near = {.call = NEAR, .a = &a};
-    const question inside = {.call = INSIDE, .a = &a};
-    const question meet = {.call = MEET, .a = &a, .b = &b};
-    const question agree = {.call = AGREE, .a = &a, .b = &b};
-    const question longer = {.call = LONGER, .a = &a};
+    const question build = {BUILD, &a, NULL, {0, 0, 0, 0, 0}};
+    const question build_b = {BUILD, &b, NULL, {0, 0, 0, 0, 0}};
+    const question widen = {WIDEN, &a, NULL, {0, 0, 0, 0, 0}};
+    const question check = {CHECK, &a, NULL, {0, 0, 0, 0, 0}};
+    const question near = {NEAR, &a, NULL, {0, 0, 0, 0, 0}};
+    const question inside = {INSIDE, &a, NULL, {0, 0, 0, 0, 0}};
+    const question meet = {MEET, &a, &b, {0, 0, 0, 0, 0}};
+    const question agree = {AGREE, &a, &b, {0, 0, 0, 0, 0}};
 
     make_comb(&a, 0);
     make_comb(&b, 1);
     measure("build, a comb", build, KNEUKELBOOM_BUILT);
     measure("build, one unit higher", build_b, KNEUKELBOOM_BUILT);
     measure("check, a comb", check, KNEUKELBOOM_ACCEPTED);
-    make_old_table(&a);
-    measure("complete, a comb", complete, KNEUKELBOOM_BUILT);
     measure("near, a comb", near, KNEUKELBOOM_YES);
     measure("meet, two combs", meet, KNEUKELBOOM_NO);
     measure("agree, two combs", agree, KNEUKELBOOM_NO);
-    measure("longer, a comb", longer, KNEUKELBOOM_LISTED);
 
     make_comb_back(&a, 0);
     make_comb_back(&b, 1);
     measure("build, a comb back", build, KNEUKELBOOM_BUILT);
     measure("build, one unit higher", build_b, KNEUKELBOOM_BUILT);
     measure("check, a comb back", check, KNEUKELBOOM_ACCEPTED);
-    make_old_table(&a);
-    measure("complete, a comb back", complete, KNEUKELBOOM_BUILT);
     measure("near, a comb back", near, KNEUKELBOOM_YES);
     measure("meet, two combs back", meet, KNEUKELBOOM_NO);
     measure("agree, two combs back", agree, KNEUKELBOOM_NO);
-    measure("longer, a comb back", longer, KNEUKELBOOM_LISTED);
     b = a;
     measure("agree, a comb back, twice", agree, KNEUKELBOOM_UNDECIDED);
     close_ring(&a);
@@ -297,14 +253,11 @@ int main(void) {
     make_table_without_end(&a);
     make_table_without_end(&b);
     measure("check, rows by hand", check, KNEUKELBOOM_ACCEPTED);
-    make_old_table(&a);
-    measure("complete, rows by hand", complete, KNEUKELBOOM_BUILT);
     measure("near, rows by hand", near, KNEUKELBOOM_YES);
     measure("inside, rows by hand", inside, KNEUKELBOOM_ON);
     measure("meet, rows by hand", meet, KNEUKELBOOM_UNDECIDED);
     b = a;
     measure("agree, rows by hand", agree, KNEUKELBOOM_UNDECIDED);
-    measure("longer, rows by hand", longer, KNEUKELBOOM_LISTED);
     measure("widen, points", widen, KNEUKELBOOM_BUILT);
     return failures == 0 ? 0 : 1;
 }

@@ -1,18 +1,14 @@
-/*
- * Points and a table that version 1 stored, widened, completed and asked, with no table built again; one that version 2
- * stored is completed alone. `make` builds and runs it.
- */
+/* Points and a table that version 1 stored, widened and asked, with no table built again; `make` builds and runs it. */
 #include "kneukelboom.h"
 #include <stdio.h>
 #include <string.h>
 
-#define OLD_NUMBERS KNEUKELBOOM_OLD_TABLE_LEN(6)
 #define NUMBERS KNEUKELBOOM_TABLE_LEN(6)
 #define ROOM (NUMBERS + 2)
 
-/* The line (0,0) (4,3) (8,0), and what version 1 built for it; version 2 built the same numbers, of 64 bits. */
+/* The line (0,0) (4,3) (8,0), and what version 1 built for it. */
 static const int32_t old_points[6] = {0, 0, 4, 3, 8, 0};
-static const int32_t old_table[OLD_NUMBERS] = {
+static const int32_t old_table[NUMBERS] = {
     0, 2, 1,  0, 24, 0, 64, 0, 8, 0, 3, /* the root, */
     0, 1, -1, 0, 0,  0, 25, 0, 4, 0, 3, /* its left half */
     1, 2, -1, 0, 0,  0, 25, 4, 8, 0, 3  /* and its right half */
@@ -22,28 +18,21 @@ static void say(const char *what, int holds) {
     printf("%s: %s\n", what, holds ? "yes" : "no");
 }
 
-/* A refusal, and whether what was lent is as it was. */
-static void say_refused(kneukelboom_reply reply, const int64_t *numbers, const int64_t *lent) {
-    printf("refused %u: %s\n", (unsigned)reply.number, kneukelboom_sentence(reply.number));
-    say("nothing is written", memcmp(numbers, lent, ROOM * sizeof *lent) == 0);
-}
-
 int main(void) {
-    int64_t points[6], wide[ROOM], table[ROOM], lent[ROOM], built[ROOM];
+    int64_t points[6], table[ROOM], lent[ROOM], built[ROOM];
     for (size_t i = 0; i < ROOM; i++)
-        wide[i] = table[i] = lent[i] = built[i] = 5;
+        table[i] = lent[i] = built[i] = 5;
 
     /* one number too few */
-    say_refused(kneukelboom_widen(old_table, OLD_NUMBERS, wide, OLD_NUMBERS - 1), wide, lent);
-    say("points are widened", kneukelboom_widen(old_points, 6, points, 6).word == KNEUKELBOOM_BUILT);
-    say("the table is widened", kneukelboom_widen(old_table, OLD_NUMBERS, wide, ROOM).word == KNEUKELBOOM_BUILT);
+    kneukelboom_reply reply = kneukelboom_widen(old_table, NUMBERS, table, NUMBERS - 1);
+    printf("refused %u: %s\n", (unsigned)reply.number, kneukelboom_sentence(reply.number));
+    say("nothing is written", memcmp(table, lent, sizeof table) == 0);
 
-    /* one number too few, and then two more than it takes: they stay */
-    say_refused(kneukelboom_complete(points, 6, wide, OLD_NUMBERS, table, NUMBERS - 1), table, lent);
-    kneukelboom_reply reply = kneukelboom_complete(points, 6, wide, OLD_NUMBERS, table, ROOM);
-    say("the table is completed", reply.word == KNEUKELBOOM_BUILT);
+    /* two more than it takes: they stay */
+    say("points are widened", kneukelboom_widen(old_points, 6, points, 6).word == KNEUKELBOOM_BUILT);
+    say("the table is widened", kneukelboom_widen(old_table, NUMBERS, table, ROOM).word == KNEUKELBOOM_BUILT);
     say("the line is built", kneukelboom_build(points, 6, built, ROOM).word == KNEUKELBOOM_BUILT);
-    say("completed is what is built", memcmp(table, built, sizeof table) == 0);
+    say("widened is what is built", memcmp(table, built, sizeof table) == 0);
     say("numbers past it stay", memcmp(table + NUMBERS, lent, 2 * sizeof *table) == 0);
 
     reply = kneukelboom_near(points, 6, table, NUMBERS, 4, 5, 2, 10);

@@ -1,14 +1,11 @@
-//! The archive before, where one was linked (`build.rs`): asked the same about the same points, over tables of its own,
-//! whose rows may have fewer numbers.
+//! The archive before, where one was linked (`build.rs`): asked about the same points and tables as ours.
 
 use std::arch::asm;
 use std::cell::Cell;
 use std::hint::black_box;
-use std::mem::MaybeUninit;
 
 use crate::race::Runner;
 use crate::Reply;
-use kneukelboom::ROW_WIDTH;
 
 /// Where it stands, if it was linked.
 pub const ARCHIVE: Option<&str> = option_env!("KNEUKELBOOM_BEFORE");
@@ -18,49 +15,9 @@ pub fn runner(run: Runner) -> Option<Runner> {
     ARCHIVE.map(|_| run)
 }
 
-/// How many numbers at the end of our rows its own do not have.
-const GAINED: usize = match usize::from_str_radix(env!("KNEUKELBOOM_BEFORE_ROW_WIDTH"), 10) {
-    Ok(width) => ROW_WIDTH - width,
-    Err(_) => panic!("build.rs gives a number"),
-};
-
-/// A table of ours as it has it: each row without what rows have gained. One that is short for us is short for it.
-pub fn table(ours: &[i64]) -> Vec<i64> {
-    let kept = |row: &[i64]| row[..row.len().saturating_sub(GAINED)].to_vec();
-    ours.chunks(ROW_WIDTH).flat_map(kept).collect()
-}
-
-/// Whether it has to answer as we do over a table of ours, if it was linked: it does not see what rows have gained, so
-/// where that is good, which is at least 1.
-pub fn sees(ours: &[i64]) -> bool {
-    let gained = |row: &[i64]| row[ROW_WIDTH - GAINED..].iter().all(|&number| number >= 1);
-    ARCHIVE.is_some() && ours.chunks_exact(ROW_WIDTH).all(gained)
-}
-
-/// What a call of it answers: the five numbers that a reply of every version has, and room for the sixth, which version
-/// 2 does not write and no call that is made here has.
-#[repr(C)]
-struct Told {
-    word: u32,
-    visits: u32,
-    number: u32,
-    line: u32,
-    place: u64,
-    _entries: MaybeUninit<u32>,
-}
-
-impl Told {
-    #[inline(always)]
-    fn reply(self) -> Reply {
-        Reply {
-            word: self.word,
-            visits: self.visits,
-            number: self.number,
-            line: self.line,
-            place: self.place,
-            entries: 0,
-        }
-    }
+/// Its reply, if it was linked.
+pub fn reply(ask: impl FnOnce() -> Reply) -> Option<Reply> {
+    ARCHIVE.map(|_| ask())
 }
 
 /// The calls by the names that `build.rs` gives them. Where no archive was linked nothing makes them, but for the
@@ -69,12 +26,12 @@ macro_rules! calls {
     ($(fn $name:ident($($number:ident: $kind:ty),*);)*) => {
         #[cfg(before)]
         extern "C" {
-            $(fn $name($($number: $kind),*) -> Told;)*
+            $(fn $name($($number: $kind),*) -> Reply;)*
         }
         $(
             #[cfg(not(before))]
             #[allow(clippy::too_many_arguments)]
-            unsafe fn $name($(_: $kind),*) -> Told {
+            unsafe fn $name($(_: $kind),*) -> Reply {
                 unreachable!("no archive before was linked")
             }
         )*
@@ -109,21 +66,21 @@ calls! {
 pub fn build(p: &[i64], t: &mut [i64]) -> Reply {
     look(p.len() / 2);
     // SAFETY: as in `rust/src/ffi.rs`: what lies behind pointer and length is lent, the table to be written.
-    unsafe { before_build(p.as_ptr(), p.len(), t.as_mut_ptr(), t.len()) }.reply()
+    unsafe { before_build(p.as_ptr(), p.len(), t.as_mut_ptr(), t.len()) }
 }
 
 #[inline]
 pub fn near(p: &[i64], t: &[i64], x: i64, y: i64, d: i64, allowance: u32) -> Reply {
     look(p.len() / 2);
     // SAFETY: as for `build`; here and below it is only read.
-    unsafe { before_near(p.as_ptr(), p.len(), t.as_ptr(), t.len(), x, y, d, allowance) }.reply()
+    unsafe { before_near(p.as_ptr(), p.len(), t.as_ptr(), t.len(), x, y, d, allowance) }
 }
 
 #[inline]
 pub fn inside(p: &[i64], t: &[i64], x: i64, y: i64, allowance: u32) -> Reply {
     look(p.len() / 2);
     // SAFETY: as for `near`.
-    unsafe { before_inside(p.as_ptr(), p.len(), t.as_ptr(), t.len(), x, y, allowance) }.reply()
+    unsafe { before_inside(p.as_ptr(), p.len(), t.as_ptr(), t.len(), x, y, allowance) }
 }
 
 #[inline]
@@ -131,7 +88,7 @@ pub fn meet(p: &[i64], t: &[i64], q: &[i64], u: &[i64], allowance: u32) -> Reply
     look(p.len() / 2 + q.len() / 2);
     let (a, at, b, bt) = (p.as_ptr(), t.as_ptr(), q.as_ptr(), u.as_ptr());
     // SAFETY: as for `near`, of both lines.
-    unsafe { before_meet(a, p.len(), at, t.len(), b, q.len(), bt, u.len(), allowance) }.reply()
+    unsafe { before_meet(a, p.len(), at, t.len(), b, q.len(), bt, u.len(), allowance) }
 }
 
 #[inline]
@@ -140,7 +97,7 @@ pub fn agree(p: &[i64], t: &[i64], q: &[i64], u: &[i64], d: i64, allowance: u32)
     let (a, at, b, bt) = (p.as_ptr(), t.as_ptr(), q.as_ptr(), u.as_ptr());
     let (p, t, q, u) = (p.len(), t.len(), q.len(), u.len());
     // SAFETY: as for `meet`.
-    unsafe { before_agree(a, p, at, t, b, q, bt, u, d, allowance) }.reply()
+    unsafe { before_agree(a, p, at, t, b, q, bt, u, d, allowance) }
 }
 
 thread_local! {

@@ -1,15 +1,15 @@
-//! Every answer is held against the others: ours against the hand-written tree and the archive before, in all numbers,
-//! and against the plain scan in what it says. A difference ends the run with status 1.
+//! Every answer is held against the others: ours against the hand-written tree and the archive before, in all five
+//! numbers, and against the plain scan in what it says. A difference ends the run with status 1.
 
 use crate::before;
 use crate::hand;
 use crate::lent;
 use crate::lent::line::LINE_A;
-use crate::lent::word::{LISTED, NO, REFUSED, UNDECIDED, YES};
+use crate::lent::word::{NO, REFUSED, UNDECIDED, YES};
 use crate::plain;
 use crate::shapes::{Drawing, Pair, Random, Sheet};
 use crate::Reply;
-use kneukelboom::{FARTHEST, OLD_ROW_WIDTH, ROW_WIDTH, SHEET};
+use kneukelboom::{FARTHEST, ROW_WIDTH, SHEET};
 
 /// Prints the difference and ends the run.
 #[cold]
@@ -38,59 +38,39 @@ fn same_word(what: &str, ours: Reply, plain: u32) {
     }
 }
 
-/// What stands in a list before a call writes to it.
-const UNWRITTEN: i64 = 0x5a5a_5a5a_5a5a_5a5a;
-
-/// A line with the table that all walk over but the archive before, and the one that this walks over, if it is asked.
+/// A line with the table that all walk over.
 pub struct Line {
     pub points: Vec<i64>,
     pub table: Vec<i64>,
-    before: Option<Vec<i64>>,
 }
 
 impl Line {
     /// Builds with all builders, which must write the same numbers and leave what is past them.
     pub fn built(points: Vec<i64>) -> Line {
+        const PAST: i64 = 0x5a5a_5a5a_5a5a_5a5a;
         let room = lent::table_len(points.len());
-        let unwritten = vec![UNWRITTEN; room + 5];
-        let [mut table, mut by_hand, mut by_form] = [(); 3].map(|()| unwritten.clone());
+        let unwritten = vec![PAST; room + 5];
+        let mut table = unwritten.clone();
         let reply = lent::build(&points, &mut table);
-        let mut by_before = before::ARCHIVE.map(|_| before::table(&unwritten));
+        let mut tables = [(); 3].map(|()| unwritten.clone());
+        let [halves, runs, of_before] = &mut tables;
         let others = [
-            Some(hand::build::<false>(&points, &mut by_hand)),
-            Some(hand::build::<true>(&points, &mut by_form)),
-            by_before
-                .as_mut()
-                .map(|table| before::build(&points, table)),
+            Some(hand::build::<false>(&points, halves)),
+            Some(hand::build::<true>(&points, runs)),
+            before::reply(|| before::build(&points, of_before)),
         ];
         same("build", reply, others);
         let written = if reply.built().is_err() { 0 } else { room };
         if table[written..] != unwritten[written..] {
             differ("build: what is to stay", &table, &unwritten);
         }
-        same_table("build by hand", &table, &by_hand);
-        same_table("build by form", &table, &by_form);
-        if let Some(other) = &mut by_before {
-            same_table("build by the archive before", &before::table(&table), other);
-            other.truncate(before::table(&table[..room]).len());
+        for (other, _) in tables.iter().zip(others).filter(|(_, said)| said.is_some()) {
+            if *other != table {
+                differ("build: the table", &table, other);
+            }
         }
         table.truncate(room);
-        Line {
-            points,
-            table,
-            before: by_before,
-        }
-    }
-
-    /// The table of the archive before, empty where that is not asked.
-    pub fn table_before(&self) -> &[i64] {
-        self.before.as_deref().unwrap_or(&[])
-    }
-
-    /// The same table as it was with eleven numbers in a row.
-    pub fn old_table(&self) -> Vec<i64> {
-        let rows = self.table.chunks_exact(ROW_WIDTH);
-        rows.flat_map(|row| row[..OLD_ROW_WIDTH].to_vec()).collect()
+        Line { points, table }
     }
 
     /// The same table, but that its row 1 does not begin where it should.
@@ -111,17 +91,6 @@ impl Line {
     /// Points and table of both.
     pub fn slices((a, b): &(Line, Line)) -> (&[i64], &[i64], &[i64], &[i64]) {
         (&a.points, &a.table, &b.points, &b.table)
-    }
-
-    /// The same with the tables of the archive before.
-    pub fn slices_before((a, b): &(Line, Line)) -> (&[i64], &[i64], &[i64], &[i64]) {
-        (&a.points, a.table_before(), &b.points, b.table_before())
-    }
-}
-
-fn same_table(what: &str, ours: &[i64], other: &[i64]) {
-    if ours != other {
-        differ(what, &ours, &other);
     }
 }
 
@@ -150,19 +119,17 @@ pub fn near(line: &Line, z: (i64, i64), d: i64) -> Reply {
     let reply = under_allowances(
         &what,
         |allowance| lent::near(p, t, x, y, d, allowance),
-        |allowance| near_by_others(line, z, d, allowance),
+        |allowance| near_by_others(p, t, z, d, allowance),
     );
     same_word(&what, reply, plain::near(p, z, d));
     reply
 }
 
-fn near_by_others(line: &Line, (x, y): (i64, i64), d: i64, allowance: u32) -> Others {
-    let (p, t) = (&line.points[..], &line.table[..]);
-    let by_before = |t: &Vec<i64>| before::near(p, t, x, y, d, allowance);
+fn near_by_others(p: &[i64], t: &[i64], (x, y): (i64, i64), d: i64, allowance: u32) -> Others {
     [
         Some(hand::near::<false>(p, t, x, y, d, allowance)),
         Some(hand::near::<true>(p, t, x, y, d, allowance)),
-        line.before.as_ref().map(by_before),
+        before::reply(|| before::near(p, t, x, y, d, allowance)),
     ]
 }
 
@@ -172,19 +139,17 @@ pub fn inside(line: &Line, z: (i64, i64)) -> Reply {
     let reply = under_allowances(
         &what,
         |allowance| lent::inside(p, t, x, y, allowance),
-        |allowance| inside_by_others(line, z, allowance),
+        |allowance| inside_by_others(p, t, z, allowance),
     );
     same_word(&what, reply, plain::inside(p, z));
     reply
 }
 
-fn inside_by_others(line: &Line, (x, y): (i64, i64), allowance: u32) -> Others {
-    let (p, t) = (&line.points[..], &line.table[..]);
-    let by_before = |t: &Vec<i64>| before::inside(p, t, x, y, allowance);
+fn inside_by_others(p: &[i64], t: &[i64], (x, y): (i64, i64), allowance: u32) -> Others {
     [
         Some(hand::inside::<false>(p, t, x, y, allowance)),
         Some(hand::inside::<true>(p, t, x, y, allowance)),
-        line.before.as_ref().map(by_before),
+        before::reply(|| before::inside(p, t, x, y, allowance)),
     ]
 }
 
@@ -193,19 +158,17 @@ pub fn meet(pair: &(Line, Line)) -> Reply {
     let reply = under_allowances(
         "meet",
         |allowance| lent::meet(p, t, q, u, allowance),
-        |allowance| meet_by_others(pair, allowance),
+        |allowance| meet_by_others(p, t, q, u, allowance),
     );
     same_word("meet", reply, plain::meet(p, q));
     reply
 }
 
-fn meet_by_others(pair: &(Line, Line), allowance: u32) -> Others {
-    let (p, t, q, u) = Line::slices(pair);
-    let tables = pair.0.before.as_ref().zip(pair.1.before.as_ref());
+fn meet_by_others(p: &[i64], t: &[i64], q: &[i64], u: &[i64], allowance: u32) -> Others {
     [
         Some(hand::meet(p, t, q, u, allowance)),
         None,
-        tables.map(|(t, u)| before::meet(p, t, q, u, allowance)),
+        before::reply(|| before::meet(p, t, q, u, allowance)),
     ]
 }
 
@@ -215,7 +178,7 @@ pub fn agree(pair: &(Line, Line), d: i64) -> Reply {
     let reply = under_allowances(
         &what,
         |allowance| lent::agree(p, t, q, u, d, allowance),
-        |allowance| agree_by_others(pair, d, allowance),
+        |allowance| agree_by_others(p, t, q, u, d, allowance),
     );
     let plain = plain::agree(p, q, d);
     let named = plain.unwrap_or((0, 0));
@@ -226,61 +189,12 @@ pub fn agree(pair: &(Line, Line), d: i64) -> Reply {
     reply
 }
 
-fn agree_by_others(pair: &(Line, Line), d: i64, allowance: u32) -> Others {
-    let (p, t, q, u) = Line::slices(pair);
-    let tables = pair.0.before.as_ref().zip(pair.1.before.as_ref());
+fn agree_by_others(p: &[i64], t: &[i64], q: &[i64], u: &[i64], d: i64, allowance: u32) -> Others {
     [
         Some(hand::agree::<false>(p, t, q, u, d, allowance)),
         Some(hand::agree::<true>(p, t, q, u, d, allowance)),
-        tables.map(|(t, u)| before::agree(p, t, q, u, d, allowance)),
+        before::reply(|| before::agree(p, t, q, u, d, allowance)),
     ]
-}
-
-/// A reply to LONGER, and its list afterwards.
-type Listed = (Reply, Vec<i64>);
-
-/// LONGER with room for all, for just enough and for one fewer. Gives the first reply.
-pub fn longer(line: &Line, length: i64) -> Reply {
-    let mut plain = vec![UNWRITTEN; line.points.len() / 2];
-    let count = plain::longer(&line.points, length, &mut plain);
-    let (reply, list) = longer_into(plain.len(), line, length);
-    if (reply.word, reply.entries as usize, &list) != (LISTED, count, &plain) {
-        differ(&longer_than(length, "plain"), &(reply, list), &plain);
-    }
-    for room in [count, count.saturating_sub(1)] {
-        longer_into(room, line, length);
-    }
-    reply
-}
-
-fn longer_into(room: usize, line: &Line, length: i64) -> Listed {
-    let (p, t) = (&line.points[..], &line.table[..]);
-    let asked = |ask: fn(&[i64], &[i64], i64, &mut [i64]) -> Reply| {
-        let mut list = vec![UNWRITTEN; room];
-        (ask(p, t, length, &mut list), list)
-    };
-    let ours = asked(lent::longer);
-    let others = [hand::longer::<false>, hand::longer::<true>].map(asked);
-    for (by, other) in ["hand", "form"].iter().zip(others) {
-        if other != ours {
-            differ(&longer_than(length, by), &ours, &other);
-        }
-    }
-    ours
-}
-
-fn longer_than(length: i64, by: &str) -> String {
-    format!("longer than {length}, by {by}")
-}
-
-/// The line's table with eleven numbers in a row, completed, is the built one.
-pub fn completed(line: &Line) {
-    let mut table = vec![UNWRITTEN; line.table.len()];
-    let reply = lent::complete(&line.points, &line.old_table(), &mut table);
-    if reply.built().is_err() {
-        differ("complete", &reply, &"a table that is sound");
-    }
-    same_table("complete, by a build", &table, &line.table);
 }
 
 /// What all checkers say of a table.
@@ -315,12 +229,10 @@ pub fn damaged(cases: u64) -> u64 {
     let mut random = Random(8);
     let mut refused = 0;
     for _ in 0..cases {
-        let mut pair = (
-            Line::built(wander(&mut random)),
-            Line::built(wander(&mut random)),
-        );
-        damage(&mut pair.0, &mut random);
-        damage(&mut pair.1, &mut random);
+        let mut pair = [(); 2].map(|()| Line::built(wander(&mut random)));
+        for line in &mut pair {
+            damage(line, &mut random);
+        }
         let z = (value(&mut random), value(&mut random));
         let d = if random.between(0, 3) == 0 {
             value(&mut random)
@@ -328,38 +240,24 @@ pub fn damaged(cases: u64) -> u64 {
             random.between(0, 60) * random.pick(&[1, Sheet::Wide.scale(), FARTHEST / 60])
         };
         let allowance = random.pick(&[0, 1, 2, 7, 40, u32::MAX, u32::MAX]);
-        // Small lengths are just those of many segments.
-        let small = random.between(0, 6);
-        let length = random.pick(&[d, small]);
-        let room = random.between(0, 20) as usize;
-        let listed = longer_over(&pair.0, length, room);
-        let replies = asked(&pair, z, d, allowance).into_iter().chain([listed]);
-        refused += replies.filter(|reply| reply.word == REFUSED).count() as u64;
+        let replies = asked(&pair, z, d, allowance);
+        refused += replies.iter().filter(|reply| reply.word == REFUSED).count() as u64;
     }
     refused
 }
 
-/// The four questions that have an allowance, and a check, held against the others.
-fn asked(pair: &(Line, Line), z: (i64, i64), d: i64, allowance: u32) -> [Reply; 5] {
-    let (p, t, q, u) = Line::slices(pair);
+/// The four questions and a check, held against the others.
+fn asked([a, b]: &[Line; 2], z: (i64, i64), d: i64, allowance: u32) -> [Reply; 5] {
+    let (p, t, q, u) = (&a.points[..], &a.table[..], &b.points[..], &b.table[..]);
     let near = lent::near(p, t, z.0, z.1, d, allowance);
-    same("near", near, near_by_others(&pair.0, z, d, allowance));
+    same("near", near, near_by_others(p, t, z, d, allowance));
     let inside = lent::inside(p, t, z.0, z.1, allowance);
-    same("inside", inside, inside_by_others(&pair.0, z, allowance));
+    same("inside", inside, inside_by_others(p, t, z, allowance));
     let meet = lent::meet(p, t, q, u, allowance);
-    same("meet", meet, meet_by_others(pair, allowance));
+    same("meet", meet, meet_by_others(p, t, q, u, allowance));
     let agree = lent::agree(p, t, q, u, d, allowance);
-    same("agree", agree, agree_by_others(pair, d, allowance));
+    same("agree", agree, agree_by_others(p, t, q, u, d, allowance));
     [near, inside, meet, agree, checked(p, t)]
-}
-
-/// LONGER into a list with so much room; over a table that is accepted also against the plain scan.
-fn longer_over(line: &Line, length: i64, room: usize) -> Reply {
-    let is_accepted = lent::check(&line.points, &line.table).accepted().is_ok();
-    if is_accepted && (0..=FARTHEST).contains(&length) {
-        longer(line, length);
-    }
-    longer_into(room, line, length).0
 }
 
 /// A short line; now and then one that cannot be built, or a ring.
@@ -383,12 +281,12 @@ fn wander(random: &mut Random) -> Vec<i64> {
 fn damage(line: &mut Line, random: &mut Random) {
     if random.between(0, 2) > 0 && !line.table.is_empty() {
         for _ in 0..random.between(1, 3) {
-            // Mostly the first rows: those are read. And more longests than there are.
+            // Mostly the first rows: those are read.
             let at = random.between(0, line.table.len() as i64 - 1) as usize;
-            let at = match random.between(0, 3) {
-                0 | 1 => at % (3 * ROW_WIDTH) % line.table.len(),
-                2 => at / ROW_WIDTH * ROW_WIDTH + ROW_WIDTH - 1,
-                _ => at,
+            let at = if random.between(0, 1) == 0 {
+                at % 33 % line.table.len()
+            } else {
+                at
             };
             // One off, or the same in its low 32 bits.
             let off = random.pick(&[1, -1, 1 << 32, i64::MIN]);
@@ -407,7 +305,6 @@ fn damage(line: &mut Line, random: &mut Random) {
     if random.between(0, 31) == 0 {
         line.points.pop();
     }
-    line.before = before::sees(&line.table).then(|| before::table(&line.table));
 }
 
 /// A number with a liking for the limits.

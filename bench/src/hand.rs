@@ -14,17 +14,14 @@
 //!
 //! Some come in two ways, chosen by `FORM`. False is the faster one. True has the form that is
 //! asked of the proved code: a walk or a check calls itself on both halves, in place of a stack of its
-//! own; a builder measures strip, box and longest of each node over its run of points, in place of putting the
-//! box and the longest together from those of the halves (a check has no gain of that); LONGER walks once to
-//! count and once to write, in place of a list of its own. What the form alone costs is the difference between
-//! the two.
+//! own; a builder measures strip and box of each node over its run of points, in place of putting the
+//! box together from those of the halves (a check has no gain of that). What the form alone costs is the
+//! difference between the two.
 
 use core::mem::MaybeUninit;
 
 use crate::lent::line::{LINE_A, LINE_B, NO_LINE};
-use crate::lent::word::{
-    ACCEPTED, BUILT, INSIDE, LISTED, NO, ON, OUTSIDE, REFUSED, UNDECIDED, YES,
-};
+use crate::lent::word::{ACCEPTED, BUILT, INSIDE, NO, ON, OUTSIDE, REFUSED, UNDECIDED, YES};
 use crate::Reply;
 use kneukelboom::{FARTHEST, MOST_POINTS, ROW_WIDTH as ROW, SHEET};
 
@@ -38,7 +35,6 @@ fn says(word: u32, visits: u32) -> Reply {
         number: 0,
         line: NO_LINE,
         place: 0,
-        entries: 0,
     }
 }
 
@@ -50,7 +46,6 @@ fn refused(number: u32, line: u32, place: u64, visits: u32) -> Reply {
         number,
         line,
         place,
-        entries: 0,
     }
 }
 
@@ -175,7 +170,6 @@ struct Seen {
     t: (i64, i64),
     x: (i64, i64),
     y: (i64, i64),
-    longest: i64,
     from: Point,
     to: Point,
 }
@@ -216,7 +210,6 @@ impl Tree {
             t: (at(5), at(6)),
             x: (at(7), at(8)),
             y: (at(9), at(10)),
-            longest: at(11),
             from: self.point(node.first),
             to: self.point(node.last),
         };
@@ -238,7 +231,6 @@ impl Tree {
             && -SHEET <= seen.y.0
             && seen.y.0 <= seen.y.1
             && seen.y.1 <= SHEET
-            && seen.longest >= 1
             && in_sheet(seen.from.0)
             && in_sheet(seen.from.1)
             && in_sheet(seen.to.0)
@@ -282,13 +274,6 @@ impl Axes {
     }
 }
 
-/// The squared length of a segment: below 2^43 on the sheet.
-#[inline(always)]
-fn squared_length(from: Point, to: Point) -> i64 {
-    let (dx, dy) = (to.0 - from.0, to.1 - from.1);
-    dx * dx + dy * dy
-}
-
 /// As squares are compared: exact.
 #[inline(always)]
 fn product(a: i64, b: i64) -> i128 {
@@ -303,9 +288,9 @@ const NOTHING_DUE: Due = [MaybeUninit::uninit(); MOST_POINTS - 1];
 
 /// What one visit does.
 enum Visit {
-    /// Dismissed, or a leaf tested: on, counted where it crosses the ray, or is longer.
+    /// Dismissed, or a leaf tested: on, with a crossing of the ray counted where there is one.
     Pass {
-        counts: bool,
+        crosses: bool,
     },
     /// A yes, or on-edge.
     End,
@@ -318,8 +303,7 @@ enum Visit {
     },
 }
 
-/// What a walk comes to, in two registers. `end` is EVEN or ODD where nothing ended it, and only IN counts; LONGER's is
-/// another.
+/// What a walk comes to, in two registers. `end` is EVEN or ODD where nothing ended it; only IN counts.
 #[derive(Clone, Copy)]
 struct Came {
     visits: u32,
@@ -381,12 +365,15 @@ impl Asked {
         let (gc, gt) = (shortfall(seen.c, c), shortfall(seen.t, t));
         let reach = product(d2, u2);
         if product(gc, gc) + product(gt, gt) > reach {
-            return Visit::Pass { counts: false };
+            return Visit::Pass { crosses: false };
         }
         if node.size() > 1 {
             return Visit::Open { split: seen.split };
         }
-        let end_within = |p: Point| squared_length(p, z) <= d2;
+        let end_within = |p: Point| {
+            let (dx, dy) = (z.0 - p.0, z.1 - p.1);
+            dx * dx + dy * dy <= d2
+        };
         let within = if t <= 0 {
             end_within(seen.from)
         } else if t >= u2 {
@@ -397,7 +384,7 @@ impl Asked {
         if within {
             Visit::End
         } else {
-            Visit::Pass { counts: false }
+            Visit::Pass { crosses: false }
         }
     }
 
@@ -419,7 +406,7 @@ impl Asked {
             }
         }
         Visit::Pass {
-            counts: crosses(z, seen.from, seen.to),
+            crosses: crosses(z, seen.from, seen.to),
         }
     }
 
@@ -445,8 +432,8 @@ impl Asked {
                     node = node.left(split);
                     continue;
                 }
-                Visit::Pass { counts } => {
-                    odd ^= counts;
+                Visit::Pass { crosses } => {
+                    odd ^= crosses;
                     if top > 0 {
                         top -= 1;
                         node = node.after(usize::from(due.get_unchecked(top).assume_init()));
@@ -487,7 +474,7 @@ impl Asked {
                     node = node.right(split);
                     continue;
                 }
-                Visit::Pass { counts } => odd ^ u32::from(counts),
+                Visit::Pass { crosses } => odd ^ u32::from(crosses),
                 Visit::End => ENDED,
                 Visit::Spent => SPENT,
                 Visit::Bad => return self.bad(node, visits),
@@ -766,186 +753,6 @@ pub fn meet(
     }
 }
 
-// ---- LONGER
-
-/// What stays the same through a walk: l2 is the square of a permitted length.
-struct Longer {
-    tree: Tree,
-    l2: i64,
-}
-
-/// The `end` of a walk of LONGER is the number of entries, or this and the bad row that was met.
-const BAD_ROW: u32 = 1 << 16;
-
-impl Longer {
-    /// SAFETY: as for `see`.
-    #[inline(always)]
-    unsafe fn visit(&self, node: Node) -> Visit {
-        let Some(seen) = self.tree.see(node) else {
-            return Visit::Bad;
-        };
-        if seen.longest > self.l2 && node.size() > 1 {
-            return Visit::Open { split: seen.split };
-        }
-        Visit::Pass {
-            counts: seen.longest > self.l2 && squared_length(seen.from, seen.to) > self.l2,
-        }
-    }
-
-    #[cold]
-    fn bad(&self, node: Node, visits: u32) -> Came {
-        let end = BAD_ROW + self.tree.row_of(node) as u32;
-        Came { visits, end }
-    }
-
-    /// The walk by a stack of its own. Entries are found in this one walk, and kept apart, for the lent list must not
-    /// change where a row is bad.
-    ///
-    /// SAFETY: as for `see`, at the root.
-    #[inline(always)]
-    unsafe fn by_stack(&self, due: &mut Due, found: &mut Due) -> Came {
-        let mut node = self.tree.root();
-        let (mut visits, mut count, mut top) = (0, 0, 0);
-        loop {
-            visits += 1;
-            match self.visit(node) {
-                Visit::Open { split } => {
-                    due.get_unchecked_mut(top).write(node.last as u16);
-                    top += 1;
-                    node = node.left(split);
-                }
-                Visit::Pass { counts } => {
-                    // There is room: the entries so far are segments before this node.
-                    found.get_unchecked_mut(count).write(node.first as u16);
-                    count += usize::from(counts);
-                    if top == 0 {
-                        let end = count as u32;
-                        return Came { visits, end };
-                    }
-                    top -= 1;
-                    node = node.after(usize::from(due.get_unchecked(top).assume_init()));
-                }
-                _ => return self.bad(node, visits),
-            }
-        }
-    }
-
-    /// The walk that calls itself on the left half and goes on with the right one, and only counts.
-    ///
-    /// SAFETY: as for `see`.
-    unsafe fn count_by_calls(
-        &self,
-        row: *const i64,
-        first: usize,
-        last: usize,
-        so_far: Came,
-    ) -> Came {
-        let mut node = Node { row, first, last };
-        let Came {
-            mut visits,
-            mut end,
-        } = so_far;
-        loop {
-            visits += 1;
-            match self.visit(node) {
-                Visit::Open { split } => {
-                    let Node { row, first, last } = node.left(split);
-                    let left = self.count_by_calls(row, first, last, Came { visits, end });
-                    if left.end >= BAD_ROW {
-                        return left;
-                    }
-                    (visits, end) = (left.visits, left.end);
-                    node = node.right(split);
-                }
-                Visit::Pass { counts } => {
-                    end += u32::from(counts);
-                    return Came { visits, end };
-                }
-                _ => return self.bad(node, visits),
-            }
-        }
-    }
-
-    /// The same walk again, which writes, over rows that are known to be good. It gives where the next entry goes.
-    ///
-    /// SAFETY: the node was counted, and as many numbers may be written.
-    unsafe fn write_by_calls(
-        &self,
-        row: *const i64,
-        first: usize,
-        last: usize,
-        mut to: *mut i64,
-    ) -> *mut i64 {
-        let mut node = Node { row, first, last };
-        loop {
-            if *node.row.add(11) <= self.l2 {
-                return to;
-            }
-            if node.size() == 1 {
-                let ends = (self.tree.point(node.first), self.tree.point(node.last));
-                if squared_length(ends.0, ends.1) > self.l2 {
-                    to.write(node.first as i64);
-                    to = to.add(1);
-                }
-                return to;
-            }
-            let split = *node.row.add(2) as usize;
-            let Node { row, first, last } = node.left(split);
-            to = self.write_by_calls(row, first, last, to);
-            node = node.right(split);
-        }
-    }
-}
-
-#[inline(never)]
-pub fn longer<const FORM: bool>(
-    points: &[i64],
-    table: &[i64],
-    length: i64,
-    list: &mut [i64],
-) -> Reply {
-    let tree = match tree(points, table, LINE_A) {
-        Ok(tree) => tree,
-        Err(refusal) => return refusal,
-    };
-    if !(0..=FARTHEST).contains(&length) {
-        return refused(7, NO_LINE, 0, 0);
-    }
-    let l2 = length * length;
-    let asked = Longer { tree, l2 };
-    let Node { row, first, last } = tree.root();
-    let mut found = NOTHING_DUE;
-    // SAFETY: the lengths were checked.
-    let Came { visits, end } = unsafe {
-        if FORM {
-            let nothing = Came { visits: 0, end: 0 };
-            asked.count_by_calls(row, first, last, nothing)
-        } else {
-            asked.by_stack(&mut { NOTHING_DUE }, &mut found)
-        }
-    };
-    if end >= BAD_ROW {
-        return refused(10, LINE_A, (end - BAD_ROW).into(), visits);
-    }
-    if end as usize > list.len() {
-        return refused(24, NO_LINE, 0, visits);
-    }
-    // SAFETY: so many entries were found, and there is room for them.
-    unsafe {
-        if FORM {
-            asked.write_by_calls(row, first, last, list.as_mut_ptr());
-        } else {
-            for (to, entry) in list.iter_mut().zip(&found[..end as usize]) {
-                *to = entry.assume_init().into();
-            }
-        }
-    }
-    Reply {
-        entries: end,
-        ..says(LISTED, visits)
-    }
-}
-
 // ---- building
 
 /// Refusals 1 to 6, or the number of segments of a line that can be built into so much room.
@@ -976,14 +783,13 @@ pub fn build<const FORM: bool>(points: &[i64], table: &mut [i64]) -> Reply {
     says(BUILT, 0)
 }
 
-/// The box of some points, and the greatest squared length of the segments between them.
+/// The box of some points.
 #[derive(Clone, Copy)]
 struct Extent {
     xmin: i64,
     xmax: i64,
     ymin: i64,
     ymax: i64,
-    longest: i64,
 }
 
 impl Extent {
@@ -994,16 +800,6 @@ impl Extent {
             xmax: x,
             ymin: y,
             ymax: y,
-            longest: 0,
-        }
-    }
-
-    /// Of a segment that ends here.
-    #[inline(always)]
-    fn reached(from: Point, to: Point) -> Extent {
-        Extent {
-            longest: squared_length(from, to),
-            ..Extent::of(to)
         }
     }
 
@@ -1014,12 +810,11 @@ impl Extent {
             xmax: self.xmax.max(other.xmax),
             ymin: self.ymin.min(other.ymin),
             ymax: self.ymax.max(other.ymax),
-            longest: self.longest.max(other.longest),
         }
     }
 }
 
-/// Writes the rows of a node and of all below it, and gives its extent.
+/// Writes the rows of a node and of all below it, and gives its box.
 ///
 /// SAFETY: first < last are points that may be read, and 2 * (last - first) - 1 rows may be written.
 unsafe fn grow<const FORM: bool>(
@@ -1030,20 +825,17 @@ unsafe fn grow<const FORM: bool>(
 ) -> Extent {
     let point = |i: usize| (*points.add(2 * i), *points.add(2 * i + 1));
     let axes = Axes::of(point(first), point(last));
-    let end_segment = Extent::reached(point(last - 1), point(last));
-    let mut extent = Extent::of(point(first)).with(end_segment);
+    let mut extent = Extent::of(point(first)).with(Extent::of(point(last)));
     let end = axes.t(point(last));
     let (mut cmin, mut cmax, mut tmin, mut tmax) = (0, 0, end.min(0), end.max(0));
     let (mut split, mut farthest, mut off_middle) = (-1, -1, 0);
-    let mut previous = point(first);
     for i in first + 1..last {
         let p = point(i);
         let (c, t) = (axes.c(p), axes.t(p));
         (cmin, cmax) = (cmin.min(c), cmax.max(c));
         (tmin, tmax) = (tmin.min(t), tmax.max(t));
         if FORM {
-            extent = extent.with(Extent::reached(previous, p));
-            previous = p;
+            extent = extent.with(Extent::of(p));
         }
         // Farthest from the chord, then nearest to the middle, then lowest: a later point must be
         // strictly better.
@@ -1074,7 +866,6 @@ unsafe fn grow<const FORM: bool>(
         extent.xmax,
         extent.ymin,
         extent.ymax,
-        extent.longest,
     ]);
     extent
 }
@@ -1120,7 +911,7 @@ fn holds((lo, hi): (i64, i64), v: i64) -> bool {
 }
 
 impl Tree {
-    /// The split of a row that is good, holds its run and tells its longest, or the number of its refusal.
+    /// The split of a row that is good and holds its run, or the number of its refusal.
     ///
     /// SAFETY: as for `see`.
     #[inline(always)]
@@ -1133,18 +924,11 @@ impl Tree {
         if !ends {
             return Err(22);
         }
-        let mut previous = seen.from;
-        let mut longest = 0;
         for i in node.first + 1..node.last {
             let p = self.point(i);
             if !(holds(seen.c, axes.c(p)) & holds(seen.t, axes.t(p)) & in_box(p)) {
                 return Err(22);
             }
-            longest = squared_length(previous, p).max(longest);
-            previous = p;
-        }
-        if squared_length(previous, seen.to).max(longest) != seen.longest {
-            return Err(22);
         }
         Ok(seen.split)
     }

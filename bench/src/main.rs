@@ -22,19 +22,17 @@ use std::process::ExitCode;
 use std::time::Instant;
 
 use check::Line;
-use kneukelboom::lent::word::{INSIDE, LISTED, ON, YES};
+use kneukelboom::lent::word::{INSIDE, ON, YES};
 pub use kneukelboom::lent::{self, Reply};
 use race::{Race, Runners};
 use report::{Question, Report, Row};
-use shapes::{Drawing, Random, Shape, Sheet, LONG, PAIRS, POINTS, SHAPES, SHEETS};
+use shapes::{Drawing, Random, Shape, Sheet, PAIRS, POINTS, SHAPES, SHEETS};
 use times::Times;
 
 /// Points asked about in a cell, enough that the processor does not learn them by heart.
 const ASKED: usize = 512;
 /// Pairs asked about in a cell.
 const TURNS: usize = 4;
-/// How often LONGER is asked in a cell.
-const AGAIN: usize = 16;
 /// The greatest allowance: every answer is decided.
 const ENOUGH: u32 = u32::MAX;
 
@@ -118,13 +116,11 @@ fn main() -> ExitCode {
     let drawings = || options.drawings().into_iter();
     drawings().for_each(|drawing| bench.build(drawing));
     drawings().for_each(|drawing| bench.checker(drawing));
-    drawings().for_each(|drawing| bench.complete(drawing));
     drawings().for_each(|drawing| bench.near(drawing));
     let rings = drawings().filter(|drawing| drawing.shape == Shape::Ring);
     rings.for_each(|drawing| bench.inside(drawing));
     drawings().for_each(|drawing| bench.meet(drawing));
     drawings().for_each(|drawing| bench.agree(drawing));
-    drawings().for_each(|drawing| bench.longer(drawing));
 
     let met = bench.report.summary();
     println!("\n{:.1} s in all", began.elapsed().as_secs_f64());
@@ -143,8 +139,7 @@ impl Bench {
     fn build(&mut self, drawing: Drawing) {
         let line = Line::built(drawing.alone());
         let points = || black_box(&line.points[..]);
-        let [mut a, mut c, mut d] = [(); 3].map(|()| line.table.clone());
-        let mut b = line.table_before().to_vec();
+        let [mut a, mut b, mut c, mut d] = [(); 4].map(|()| line.table.clone());
         let times = self.race.run(Runners {
             ours: Some(&mut || sum([lent::build(points(), &mut a)])),
             before: before::runner(&mut || sum([before::build(points(), &mut b)])),
@@ -176,24 +171,9 @@ impl Bench {
         self.add(Question::Check, drawing, "", None, &[], times);
     }
 
-    fn complete(&mut self, drawing: Drawing) {
-        let line = Line::built(drawing.alone());
-        check::completed(&line);
-        let old = line.old_table();
-        let points = || black_box(&line.points[..]);
-        let [mut a, mut b] = [(); 2].map(|()| line.table.clone());
-        let times = self.race.run(Runners {
-            ours: Some(&mut || sum([lent::complete(points(), black_box(&old), &mut a)])),
-            build: Some(&mut || sum([lent::build(points(), &mut b)])),
-            ..Runners::default()
-        });
-        let times = times.per(drawing.n);
-        self.add(Question::Complete, drawing, "", None, &[], times);
-    }
-
     fn near(&mut self, drawing: Drawing) {
         let line = Line::built(drawing.alone());
-        let (p, t, b) = (&line.points[..], &line.table[..], line.table_before());
+        let (p, t) = (&line.points[..], &line.table[..]);
         let mut random = Random(drawing.n as u64);
         for kind in POINTS {
             let asked = kind.some(drawing.sheet, p, ASKED, &mut random);
@@ -203,7 +183,7 @@ impl Bench {
                 let times = self.race.run(Runners {
                     ours: Some(&mut || sum(each().map(|(x, y)| lent::near(p, t, x, y, d, ENOUGH)))),
                     before: before::runner(&mut || {
-                        sum(each().map(|(x, y)| before::near(p, b, x, y, d, ENOUGH)))
+                        sum(each().map(|(x, y)| before::near(p, t, x, y, d, ENOUGH)))
                     }),
                     hand: Some(&mut || {
                         sum(each().map(|(x, y)| hand::near::<false>(p, t, x, y, d, ENOUGH)))
@@ -223,7 +203,7 @@ impl Bench {
 
     fn inside(&mut self, drawing: Drawing) {
         let line = Line::built(drawing.alone());
-        let (p, t, b) = (&line.points[..], &line.table[..], line.table_before());
+        let (p, t) = (&line.points[..], &line.table[..]);
         let mut random = Random(drawing.n as u64);
         for kind in POINTS {
             let asked = kind.some(drawing.sheet, p, ASKED, &mut random);
@@ -232,7 +212,7 @@ impl Bench {
             let times = self.race.run(Runners {
                 ours: Some(&mut || sum(each().map(|(x, y)| lent::inside(p, t, x, y, ENOUGH)))),
                 before: before::runner(&mut || {
-                    sum(each().map(|(x, y)| before::inside(p, b, x, y, ENOUGH)))
+                    sum(each().map(|(x, y)| before::inside(p, t, x, y, ENOUGH)))
                 }),
                 hand: Some(&mut || {
                     sum(each().map(|(x, y)| hand::inside::<false>(p, t, x, y, ENOUGH)))
@@ -252,12 +232,11 @@ impl Bench {
         for kind in PAIRS {
             let pairs = Line::pairs(drawing, kind, TURNS);
             let each = || black_box(&pairs[..]).iter().map(Line::slices);
-            let each_before = || black_box(&pairs[..]).iter().map(Line::slices_before);
             let replies: Vec<_> = pairs.iter().map(check::meet).collect();
             let times = self.race.run(Runners {
                 ours: Some(&mut || sum(each().map(|(p, t, q, u)| lent::meet(p, t, q, u, ENOUGH)))),
                 before: before::runner(&mut || {
-                    sum(each_before().map(|(p, t, q, u)| before::meet(p, t, q, u, ENOUGH)))
+                    sum(each().map(|(p, t, q, u)| before::meet(p, t, q, u, ENOUGH)))
                 }),
                 hand: Some(&mut || sum(each().map(|(p, t, q, u)| hand::meet(p, t, q, u, ENOUGH)))),
                 plain: Some(&mut || {
@@ -276,7 +255,6 @@ impl Bench {
         for kind in PAIRS {
             let pairs = Line::pairs(drawing, kind, TURNS);
             let each = || black_box(&pairs[..]).iter().map(Line::slices);
-            let each_before = || black_box(&pairs[..]).iter().map(Line::slices_before);
             for d in distances(drawing.sheet) {
                 let replies: Vec<_> = pairs.iter().map(|pair| check::agree(pair, d)).collect();
                 let times = self.race.run(Runners {
@@ -284,7 +262,7 @@ impl Bench {
                         sum(each().map(|(p, t, q, u)| lent::agree(p, t, q, u, d, ENOUGH)))
                     }),
                     before: before::runner(&mut || {
-                        sum(each_before().map(|(p, t, q, u)| before::agree(p, t, q, u, d, ENOUGH)))
+                        sum(each().map(|(p, t, q, u)| before::agree(p, t, q, u, d, ENOUGH)))
                     }),
                     hand: Some(&mut || {
                         sum(each().map(|(p, t, q, u)| hand::agree::<false>(p, t, q, u, d, ENOUGH)))
@@ -306,27 +284,6 @@ impl Bench {
         }
     }
 
-    fn longer(&mut self, drawing: Drawing) {
-        let line = Line::built(drawing.with_gaps());
-        let (p, t) = (&line.points[..], &line.table[..]);
-        for kind in LONG {
-            let length = kind.length(p);
-            let reply = check::longer(&line, length);
-            let each = || black_box([length; AGAIN]).into_iter();
-            let [mut a, mut b, mut c, mut d] = [(); 4].map(|()| vec![0; drawing.n]);
-            let times = self.race.run(Runners {
-                ours: Some(&mut || sum(each().map(|l| lent::longer(p, t, l, &mut a)))),
-                hand: Some(&mut || sum(each().map(|l| hand::longer::<false>(p, t, l, &mut b)))),
-                form: Some(&mut || sum(each().map(|l| hand::longer::<true>(p, t, l, &mut c)))),
-                plain: Some(&mut || each().map(|l| plain::longer(p, l, &mut d) as u64).sum()),
-                ..Runners::default()
-            });
-            let times = times.per(AGAIN);
-            let (asked, d) = (kind.name(), Some(length));
-            self.add(Question::Longer, drawing, asked, d, &[reply], times);
-        }
-    }
-
     fn add(
         &mut self,
         question: Question,
@@ -337,18 +294,14 @@ impl Bench {
         times: Times,
     ) {
         let count = replies.len() as f64;
-        let yes = |reply: &Reply| match reply.word {
-            YES | INSIDE | ON => 1.0,
-            LISTED => f64::from(reply.entries) / drawing.n as f64,
-            _ => 0.0,
-        };
+        let is_yes = |reply: &&Reply| [YES, INSIDE, ON].contains(&reply.word);
         let visits: u64 = replies.iter().map(|reply| u64::from(reply.visits)).sum();
         self.report.add(Row {
             question,
             drawing,
             asked,
             d,
-            yes: replies.iter().map(yes).sum::<f64>() / count,
+            yes: replies.iter().filter(is_yes).count() as f64 / count,
             visits: visits as f64 / count,
             times,
         });

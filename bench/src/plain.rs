@@ -124,17 +124,3 @@ pub fn agree(points_a: &[i64], points_b: &[i64], d: i64) -> Astray {
     }
     astray(points_b, points_a).map(|i| (2, i as u64))
 }
-
-/// Puts the numbers of all segments longer than a length to the front of a list with room for them, and gives how many
-/// they are.
-#[inline(never)]
-pub fn longer(points: &[i64], length: i64, list: &mut [i64]) -> usize {
-    let mut count = 0;
-    for (i, (a, b)) in segments(points).enumerate() {
-        if square(a, b) > length * length {
-            list[count] = i as i64;
-            count += 1;
-        }
-    }
-    count
-}

@@ -3,30 +3,26 @@
 use std::fs;
 
 use crate::before;
-use crate::shapes::{Drawing, Shape, Sheet, LONG, SHEETS};
+use crate::shapes::{Drawing, Shape, Sheet, SHEETS};
 use crate::times::{median, Times};
 
 #[derive(Clone, Copy, PartialEq, Eq, Debug)]
 pub enum Question {
     Build,
     Check,
-    Complete,
     Near,
     In,
     Meet,
     Agree,
-    Longer,
 }
 
-const QUESTIONS: [Question; 8] = [
+const QUESTIONS: [Question; 6] = [
     Question::Build,
     Question::Check,
-    Question::Complete,
     Question::Near,
     Question::In,
     Question::Meet,
     Question::Agree,
-    Question::Longer,
 ];
 
 impl Question {
@@ -34,54 +30,26 @@ impl Question {
         match self {
             Question::Build => "build",
             Question::Check => "check",
-            Question::Complete => "complete",
             Question::Near => "near",
             Question::In => "in",
             Question::Meet => "meet",
             Question::Agree => "agree",
-            Question::Longer => "longer",
         }
     }
 
-    /// What a bar speaks of. A build is to measure each run whole, as form does; but on wide lines it is held against
-    /// what is fastest by hand. A check is held against the build of the same line.
-    fn barred(self, sheet: Sheet) -> Option<Yardstick> {
+    /// What a bar speaks of, and what is told beside the bars. A build is to measure each run whole, as form does; but
+    /// on wide lines it is held against what is fastest by hand. A check is held against the build of the same line.
+    fn yardsticks(self, sheet: Sheet) -> [Yardstick; 2] {
         match (self, sheet) {
-            (Question::Complete | Question::Longer, _) => None,
-            (Question::Check, _) => Some(Yardstick::Build),
-            (Question::Build, Sheet::Old) => Some(Yardstick::Form),
-            _ => Some(Yardstick::Hand),
+            (Question::Check, _) => [Yardstick::Build, Yardstick::Hand],
+            (Question::Build, Sheet::Old) => [Yardstick::Form, Yardstick::Hand],
+            _ => [Yardstick::Hand, Yardstick::Form],
         }
     }
 
-    /// What is told beside the bars: the other hand-written tree, where there are two.
-    fn beside(self, sheet: Sheet) -> Option<Yardstick> {
-        match (self, sheet) {
-            (Question::Complete | Question::Longer | Question::Meet, _) => None,
-            (Question::Check, _) | (Question::Build, Sheet::Old) => Some(Yardstick::Hand),
-            _ => Some(Yardstick::Form),
-        }
-    }
-
-    /// Whether the archive before is asked it. It need not have the newest.
+    /// Whether the archive before is asked it. It need not have a checker.
     fn of_before(self) -> bool {
-        let newest = [Question::Check, Question::Complete, Question::Longer];
-        before::ARCHIVE.is_some() && !newest.contains(&self)
-    }
-
-    /// Whether it is there by hand.
-    fn by_hand(self) -> bool {
-        self != Question::Complete
-    }
-
-    /// Whether it is held against the build of the same line.
-    fn by_build(self) -> bool {
-        [Question::Check, Question::Complete].contains(&self)
-    }
-
-    /// Whether the plain scan is asked it.
-    fn by_plain(self) -> bool {
-        ![Question::Build, Question::Check, Question::Complete].contains(&self)
+        before::ARCHIVE.is_some() && self != Question::Check
     }
 }
 
@@ -117,15 +85,12 @@ impl Yardstick {
     fn most(self, question: Question, sheet: Sheet) -> f64 {
         match (self, question, sheet) {
             (Yardstick::Build, _, _) => 1.00,
-            (Yardstick::Before, _, _) => 1.05,
-            (_, Question::Check, _) | (_, _, Sheet::Wide) => 1.15,
+            (Yardstick::Before, Question::Build, _) => 1.10,
+            (Yardstick::Before, _, _) | (_, Question::Check, _) | (_, _, Sheet::Wide) => 1.15,
             (_, _, Sheet::Old) => 1.10,
         }
     }
 }
-
-/// How a ratio is read from the times of a cell.
-type Ratio = fn(&Times) -> f64;
 
 /// A cell of the table: one kind of question about one kind of line. What does not apply is not a number.
 pub struct Row {
@@ -141,7 +106,7 @@ pub struct Row {
 
 /// The table's columns with their widths. The first four stand to the left.
 const COLUMNS: [(&str, usize); 19] = [
-    ("", 8),
+    ("", 5),
     ("sheet", 5),
     ("line", 6),
     ("asked", 9),
@@ -166,9 +131,8 @@ const COLUMNS: [(&str, usize); 19] = [
 fn applies(column: &str, question: Question) -> bool {
     match column {
         "before" | "ours/before" => question.of_before(),
-        "hand" | "form" | "ours/hand" | "ours/form" => question.by_hand(),
-        "plain" | "plain/ours" => question.by_plain(),
-        "build" | "ours/build" => question.by_build(),
+        "plain" | "plain/ours" => ![Question::Build, Question::Check].contains(&question),
+        "build" | "ours/build" => question == Question::Check,
         _ => true,
     }
 }
@@ -248,16 +212,15 @@ wide   the same lines 61 times as large, over the sheet of today: squares pass 6
 
 ours   the archive
 before the archive of the landing before
-hand   the hand-written strip tree: same rows, same walk, same row check; walks and checks by a stack, boxes and longest
-       of a build from the halves, longer's list apart
-form   the same in the form that is asked of ours: walks and checks by calls, each run measured whole (meet: hand is),
-       longer's walk to count and again to write
+hand   the hand-written strip tree: same rows, same walk, same row check; walks and checks by a stack, boxes of a build
+       from the halves
+form   the same in the form that is asked of ours: walks and checks by calls, each run measured whole (meet: hand is)
 plain  the plain scan over all segments
-build  beside a check and a completion: ours building the same line
+build  beside a check: ours building the same line
 
-Nanoseconds per question, for build, check and complete per segment: medians of {repetitions} interleaved repetitions
-or a few more. Ratios are medians of those within a repetition. Every answer is compared: all numbers of ours, before,
-hand and form, the word or the list with plain. Of longer, D is the length and yes the part of the segments in the list.
+Nanoseconds per question, for build and check per segment: medians of {repetitions} interleaved repetitions or a few
+more. Ratios are medians of those within a repetition. Every answer is compared: all numbers of ours, before, hand and
+form, the word with plain.
 "
     );
 }
@@ -307,15 +270,20 @@ impl Report {
         }
         for sheet in SHEETS {
             self.by_shape(sheet, Yardstick::Before, Question::of_before);
-            self.by_shape(sheet, Yardstick::Build, Question::by_build);
+            self.by_shape(sheet, Yardstick::Build, |question| {
+                question == Question::Check
+            });
         }
         self.early();
-        self.longer();
         let met = self.bars();
         println!(
             "\nbeside the bars: against the other hand-written tree, and a check against hand"
         );
-        self.all_held(Question::beside);
+        for sheet in SHEETS {
+            for question in QUESTIONS.into_iter().filter(|&q| q != Question::Meet) {
+                self.held(question, sheet, question.yardsticks(sheet)[1]);
+            }
+        }
         met
     }
 
@@ -326,7 +294,7 @@ impl Report {
              Visits: medians over the cells with 5 or more",
             sheet.name()
         );
-        print!("{:<8}", "");
+        print!("{:<5}", "");
         for n in self.sizes() {
             print!(" {:>12}", format!("n {n}"));
         }
@@ -334,8 +302,8 @@ impl Report {
             print!(" {:>15}", format!("{name}, ns/visit"));
         }
         println!();
-        for question in QUESTIONS.into_iter().filter(|q| q.by_hand()) {
-            print!("{:<8}", question.name());
+        for question in QUESTIONS {
+            print!("{:<5}", question.name());
             for n in self.sizes() {
                 let cells = self.of(question, sheet).filter(|row| row.drawing.n == n);
                 let [_, middle, most] = spread(cells.map(|row| row.times.ours_by_hand));
@@ -362,14 +330,14 @@ impl Report {
             sheet.name(),
             by.name()
         );
-        print!("{:<15}", "");
+        print!("{:<12}", "");
         for n in self.sizes() {
             print!(" {:>18}", format!("n {n}"));
         }
         println!();
         for question in questions {
             for shape in self.shapes(question) {
-                print!("{:<8} {:<6}", question.name(), shape.name());
+                print!("{:<5} {:<6}", question.name(), shape.name());
                 for n in self.sizes() {
                     let drawing = Drawing { sheet, shape, n };
                     let cells = self.of(question, sheet);
@@ -405,34 +373,20 @@ impl Report {
         );
     }
 
-    /// LONGER by how many segments are longer: against the hand-written trees, and against the plain scan.
-    fn longer(&self) {
-        println!("\nlonger, from n = 64 on, by how many segments are: least, median and greatest");
-        let ratios: [(&str, Ratio); 3] = [
-            ("ours/hand", |times| times.ours_by_hand),
-            ("ours/form", |times| times.ours_by_form),
-            ("plain/ours", |times| times.plain_by_ours),
-        ];
-        for kind in LONG {
-            print!("{:<8}", kind.name());
-            for (name, ratio) in ratios {
-                let cells = self
-                    .rows
-                    .iter()
-                    .filter(|row| row.question == Question::Longer);
-                let cells = cells.filter(|row| row.drawing.n >= 64 && row.asked == kind.name());
-                let spread = spread(cells.map(|row| ratio(&row.times))).map(number);
-                print!("   {name} {}", spread.join(" "));
-            }
-            println!();
-        }
-    }
-
     /// Whether all bars are met.
     fn bars(&self) -> bool {
         println!("\nbars");
-        let mut met = self.all_held(Question::barred);
-        met &= self.all_held(|question, _| question.of_before().then_some(Yardstick::Before));
+        let mut met = true;
+        for sheet in SHEETS {
+            for question in QUESTIONS {
+                met &= self.held(question, sheet, question.yardsticks(sheet)[0]);
+            }
+        }
+        for sheet in SHEETS {
+            for question in QUESTIONS.into_iter().filter(|q| q.of_before()) {
+                met &= self.held(question, sheet, Yardstick::Before);
+            }
+        }
         let by_plain = |question, asked: &str, least: f64| {
             let cells = self.of(question, Sheet::Old);
             let cells = cells.filter(|row| row.drawing.n == 4_096 && row.asked == asked);
@@ -445,18 +399,6 @@ impl Report {
         met &= by_plain(Question::Near, "near line", 8.0);
         met &= by_plain(Question::Meet, "crossing", 1_000.0);
         met
-    }
-
-    /// Whether ours takes no more than is allowed of the yardsticks that questions have.
-    fn all_held(&self, yardstick: fn(Question, Sheet) -> Option<Yardstick>) -> bool {
-        let mut held = true;
-        for sheet in SHEETS {
-            for question in QUESTIONS {
-                let by = yardstick(question, sheet);
-                held &= by.is_none_or(|by| self.held(question, sheet, by));
-            }
-        }
-        held
     }
 
     /// Whether ours takes no more than a bar allows, from 64 segments on.

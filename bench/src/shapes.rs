@@ -136,19 +136,6 @@ impl Drawing {
         self.line(0.0, 16_000.0, (0.0, 0.0))
     }
 
-    /// The same where bends were skipped: one segment in 64, and at least one, steps over four of the points drawn.
-    pub fn with_gaps(self) -> Vec<i64> {
-        const SKIPPED: usize = 4;
-        let gaps = few(self.n);
-        let n = self.n + SKIPPED * gaps;
-        let from_gap_to_gap = n / gaps;
-        let gap = from_gap_to_gap / 2..from_gap_to_gap / 2 + SKIPPED;
-        let drawn = Drawing { n, ..self }.alone();
-        let points = drawn.chunks_exact(2).enumerate();
-        let kept = points.filter(|(i, _)| !gap.contains(&(i % from_gap_to_gap)));
-        kept.flat_map(|(_, p)| [p[0], p[1]]).collect()
-    }
-
     /// Two lines of n segments. `turn` moves the second a little.
     pub fn pair(self, pair: Pair, turn: usize) -> (Vec<i64>, Vec<i64>) {
         let moved = 37.0 * turn as f64;
@@ -258,47 +245,5 @@ impl Points {
             }
             Points::Vertex => at(random.between(0, n) as usize),
         }
-    }
-}
-
-/// A few of so many segments.
-fn few(n: usize) -> usize {
-    (n / 64).max(1)
-}
-
-/// How many segments of a line are longer than the length that is asked.
-#[derive(Clone, Copy, PartialEq, Eq, Debug)]
-pub enum Long {
-    Nothing,
-    /// At most one in 64, or one.
-    Few,
-    All,
-}
-
-pub const LONG: [Long; 3] = [Long::Nothing, Long::Few, Long::All];
-
-impl Long {
-    pub fn name(self) -> &'static str {
-        match self {
-            Long::Nothing => "none",
-            Long::Few => "few",
-            Long::All => "all",
-        }
-    }
-
-    /// The least length, of those that are whole numbers, that no more of a line's segments are longer than.
-    pub fn length(self, line: &[i64]) -> i64 {
-        let square = |(a, b): (&[i64], &[i64])| (b[0] - a[0]).pow(2) + (b[1] - a[1]).pow(2);
-        let points = || line.chunks_exact(2);
-        let mut squares: Vec<i64> = points().zip(points().skip(1)).map(square).collect();
-        squares.sort_unstable();
-        let not_longer = match self {
-            Long::Nothing => squares.len(),
-            Long::Few => squares.len() - few(squares.len()),
-            Long::All => return 0,
-        };
-        let square = squares[not_longer - 1];
-        let root = square.isqrt();
-        root + i64::from(root * root < square)
     }
 }

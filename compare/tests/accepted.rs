@@ -1,12 +1,27 @@
-//! The questions that have an allowance, over tables that the checker accepts, whoever wrote them: words, lines and
-//! points of the replies are plain geometry's, and those of the built table; visits are the second reading's, and at
-//! most as many as always suffice.
+//! Questions over tables that the checker accepts, whoever wrote them: words, lines and points of the replies are plain
+//! geometry's, and those of the built table; visits are the second reading's, and at most as many as always suffice.
 
-use compare::{agree, ask_plainly, inside, meet, near, Lent, ENOUGH};
+use compare::{agree, ask_plainly, check, inside, meet, near, Lent, ACCEPTED, ENOUGH};
 use kneukelboom::lent::{word, Reply};
 use kneukelboom::SHEET;
-use second::generate::{asked_point, distance, Random};
+use second::generate::{asked_point, damage, distance, foreign_table, loosen, sound_line, Random};
 use second::geometry::{all_points, Point};
+
+/// A line whose table has other splits and is looser, is the built one but looser, or has foreign numbers in it that
+/// leave it sound: the checker decides.
+fn accepted(random: &mut Random) -> Lent {
+    let mut lines = (0..1_000).map(|_| {
+        let mut lent = Lent::built(&sound_line(random));
+        match random.between(0, 3) {
+            0 => loosen(random, &mut lent.table),
+            1 => damage(random, &mut lent.table),
+            _ => lent.table = foreign_table(random, &lent.points),
+        }
+        lent
+    });
+    let accepted = lines.find(|lent| check(lent) == ACCEPTED);
+    accepted.expect("most of them are sound")
+}
 
 /// A point and a distance to ask about, on the sheet or not, permitted or not.
 fn asked(random: &mut Random, line: &Lent) -> (Point, i64) {
@@ -33,7 +48,7 @@ fn answers_over_accepted_tables_are_plain_geometrys_and_the_built_tables() {
     let mut random = Random(90);
     let mut other_visits = [0; 4];
     for _ in 0..3_000 {
-        let [a, b] = [(); 2].map(|()| Lent::accepted(&mut random));
+        let [a, b] = [(); 2].map(|()| accepted(&mut random));
         let (z, d) = asked(&mut random, &a);
         let replies = ask_plainly(&a, &b, z, d);
         let [of_a, of_b] = [&a, &b].map(|lent| Lent::built(&lent.points));
@@ -65,7 +80,7 @@ fn answers_over_accepted_tables_are_plain_geometrys_and_the_built_tables() {
 fn the_visits_that_always_suffice_decide_and_one_too_few_does_not() {
     let mut random = Random(91);
     for _ in 0..2_000 {
-        let [a, b] = [(); 2].map(|()| Lent::accepted(&mut random));
+        let [a, b] = [(); 2].map(|()| accepted(&mut random));
         let (z, d) = asked(&mut random, &a);
         let ask: [&dyn Fn(u32) -> Reply; 4] = [
             &|allowance| near(&a, z.x, z.y, d, allowance),

@@ -1,24 +1,111 @@
 //! The checker: what was built, and sound tables of other software, are accepted; all else gets the refusal and the row
 //! that the second reading tells. Where the damage is planned, this file tells them too: what it knows of a built table
-//! is that each number of strip and box is that of some point, so that one less leaves it out, and the longest that of
-//! some segment, so that neither one more nor one less is right.
+//! is that each number of strip and box is that of some point, so that one less leaves it out.
 
-use compare::{
-    build, check, largest_lines, odd_values, refused_at, small_lines, Dice, Lent, Rows, Seen,
-    ACCEPTED, BAD, NOT_RIGHT, WRITTEN,
-};
-use kneukelboom::lent::{table_len, Reply};
+use compare::{build, check, odd_values, small_lines, Dice, Lent, ACCEPTED, WRITTEN};
+use kneukelboom::lent::{line, table_len, word, Reply};
 use kneukelboom::{MOST_POINTS, ROW_WIDTH, SHEET};
 use second::generate::{
-    comb, damage, damage_at, foreign, loosen, sound_line, stray, Damage, Random,
+    comb, damage, damage_at, foreign, foreign_table, loosen, sound_line, stray, Damage, Random,
 };
-use second::tree::{LONGEST, OLD_SHEET};
+use second::tree::OLD_SHEET;
 
-/// Checks a line that is built, and counts what it comes to.
-fn counted(seen: &mut Seen, lent: &Lent) -> Reply {
-    let reply = check(lent);
-    seen.count(reply, lent.rows());
-    reply
+const BAD: u32 = 21;
+const LEAVES_OUT: u32 = 22;
+
+fn refused(number: u32, row: usize) -> Reply {
+    Reply {
+        word: word::REFUSED,
+        visits: 0,
+        number,
+        line: line::LINE_A,
+        place: row as u64,
+    }
+}
+
+/// A line with a sound table of other software.
+fn of_other_software(random: &mut Random, points: &[i64]) -> Lent {
+    Lent {
+        points: points.to_vec(),
+        table: foreign_table(random, points),
+    }
+}
+
+/// A line of some shape, built or with a table of other software.
+fn any_sound(random: &mut Random) -> Lent {
+    let points = sound_line(random);
+    if random.one_in(2) {
+        Lent::built(&points)
+    } else {
+        of_other_software(random, &points)
+    }
+}
+
+/// The same line with one number of its table changed.
+fn with(lent: &Lent, row: usize, column: usize, value: i64) -> Lent {
+    let mut changed = lent.clone();
+    changed.table[ROW_WIDTH * row + column] = value;
+    changed
+}
+
+/// What the checks of a test came to: how many of each, and of the refusals in which row.
+#[derive(Default, Debug)]
+struct Seen {
+    accepted: u32,
+    bad: Rows,
+    leaves_out: Rows,
+}
+
+#[derive(Default, Debug)]
+struct Rows {
+    first: u32,
+    inner: u32,
+    last: u32,
+}
+
+impl Rows {
+    fn count(&mut self, row: usize, of: usize) {
+        match row {
+            0 => self.first += 1,
+            _ if row + 1 == of => self.last += 1,
+            _ => self.inner += 1,
+        }
+    }
+
+    fn fewest(&self) -> u32 {
+        self.first.min(self.inner).min(self.last)
+    }
+}
+
+impl Seen {
+    /// Checks a line that is built: what can come of it is no other refusal than 21 and 22.
+    fn check(&mut self, lent: &Lent) -> Reply {
+        let reply = check(lent);
+        let row = reply.place as usize;
+        match reply.number {
+            0 => {
+                assert_eq!(reply, ACCEPTED);
+                self.accepted += 1;
+            }
+            number => {
+                assert_eq!(reply, refused(number, row));
+                assert!(row < lent.rows(), "row {row} of {lent:?}");
+                let rows = match number {
+                    BAD => &mut self.bad,
+                    LEAVES_OUT => &mut self.leaves_out,
+                    other => panic!("{other} of {lent:?}"),
+                };
+                rows.count(row, lent.rows());
+            }
+        }
+        reply
+    }
+
+    /// What no checker comes to that always says the same, or looks at some rows alone.
+    fn each_at_least(&self, times: u32) {
+        let fewest = self.bad.fewest().min(self.leaves_out.fewest());
+        assert!(fewest.min(self.accepted) >= times, "{self:?}");
+    }
 }
 
 // ---- accepted
@@ -46,7 +133,7 @@ fn sound_tables_of_other_software_are_accepted() {
     let (mut splits, mut edges, mut ends) = (0, 0, 0);
     for _ in 0..3_000 {
         let mut lent = Lent::built(&sound_line(&mut random));
-        let other = Lent::of_other_software(&mut random, &lent.points);
+        let other = of_other_software(&mut random, &lent.points);
         assert_eq!(check(&other), ACCEPTED);
         let line_ends_before = lent.table[7] > -SHEET;
         splits += u32::from(column(&other, 2) != column(&lent, 2));
@@ -66,6 +153,13 @@ fn column(lent: &Lent, column: usize) -> Vec<i64> {
     rows.map(|row| row[column]).collect()
 }
 
+/// As deep as the line is long, to either side, and as wide as a line can be.
+fn largest_lines() -> [Vec<i64>; 3] {
+    let comb = comb(MOST_POINTS);
+    let back = comb.chunks_exact(2).rev().flatten().copied().collect();
+    [comb, back, Dice(72).line(MOST_POINTS - 1, SHEET)]
+}
+
 #[test]
 fn lines_of_4097_points_are_accepted_and_their_last_row_is_checked() {
     let mut random = Random(72);
@@ -73,13 +167,12 @@ fn lines_of_4097_points_are_accepted_and_their_last_row_is_checked() {
         let built = Lent::built(&points);
         assert_eq!(check(&built), ACCEPTED);
         for _ in 0..2 {
-            let other = Lent::of_other_software(&mut random, &points);
-            assert_eq!(check(&other), ACCEPTED);
+            assert_eq!(check(&of_other_software(&mut random, &points)), ACCEPTED);
         }
         let last = built.rows() - 1;
-        assert_eq!(check(&built.with(last, 2, 0)), refused_at(BAD, last));
+        assert_eq!(check(&with(&built, last, 2, 0)), refused(BAD, last));
         // t of the line's last point is the square of a length, and above 0
-        assert_eq!(check(&built.with(last, 6, 0)), refused_at(NOT_RIGHT, last));
+        assert_eq!(check(&with(&built, last, 6, 0)), refused(LEAVES_OUT, last));
     }
 }
 
@@ -89,14 +182,14 @@ fn a_line_of_4098_points_is_refused_3() {
         points: comb(MOST_POINTS + 1),
         table: vec![0; table_len(2 * MOST_POINTS + 2)],
     };
-    assert_eq!(check(&lent), refused_at(3, 0));
+    assert_eq!(check(&lent), refused(3, 0));
 }
 
 #[test]
 fn numbers_past_the_rows_are_not_looked_at() {
     let mut random = Random(73);
     for _ in 0..2_000 {
-        let mut lent = Lent::any_sound(&mut random);
+        let mut lent = any_sound(&mut random);
         lent.table.truncate(table_len(lent.points.len()));
         if random.one_in(2) {
             damage(&mut random, &mut lent.table);
@@ -111,11 +204,9 @@ fn numbers_past_the_rows_are_not_looked_at() {
 
 // ---- damage that is planned
 
-/// Columns, and the numbers by which a built row that stays good is one unit too tight for some point of its run, or
-/// has a longest that is one unit off.
-fn a_unit_off(row: &[i64]) -> Vec<(usize, i64)> {
-    let mut changes = vec![(LONGEST, row[LONGEST] + 1)];
-    changes.extend((row[LONGEST] > 1).then_some((LONGEST, row[LONGEST] - 1)));
+/// Columns, and the numbers by which a built row that stays good is one unit too tight for some point of its run.
+fn tighter(row: &[i64]) -> Vec<(usize, i64)> {
+    let mut changes = vec![];
     for (least, greatest) in [(3, 4), (5, 6), (7, 8), (9, 10)] {
         // a good strip has 0 in it; a good box does not end before it begins
         let is_strip = least < 7;
@@ -144,9 +235,6 @@ fn bad_numbers(row: &[i64]) -> Vec<(usize, i64)> {
         (4, -1),
         (5, 1),
         (6, -1),
-        (LONGEST, 0),
-        (LONGEST, -1),
-        (LONGEST, -row[LONGEST]),
     ];
     let is_leaf = last - first == 1;
     changes.extend((!is_leaf).then_some((2, -1)));
@@ -164,7 +252,7 @@ fn bad_numbers(row: &[i64]) -> Vec<(usize, i64)> {
 fn faults(number: u32, row: &[i64]) -> Vec<(usize, i64)> {
     match number {
         BAD => bad_numbers(row),
-        _ => a_unit_off(row),
+        _ => tighter(row),
     }
 }
 
@@ -180,14 +268,14 @@ fn row_of(lent: &Lent, row: usize) -> &[i64] {
 }
 
 #[test]
-fn a_row_that_breaks_a_rule_is_21_and_one_that_is_a_unit_off_22() {
+fn a_row_that_breaks_a_rule_is_21_and_one_that_is_a_unit_too_tight_22() {
     let mut random = Random(74);
     for lent in built_lines(&mut random, 15) {
         for row in 0..lent.rows() {
-            for number in [BAD, NOT_RIGHT] {
+            for number in [BAD, LEAVES_OUT] {
                 for (column, value) in faults(number, row_of(&lent, row)) {
-                    let damaged = lent.with(row, column, value);
-                    assert_eq!(check(&damaged), refused_at(number, row), "column {column}");
+                    let damaged = with(&lent, row, column, value);
+                    assert_eq!(check(&damaged), refused(number, row), "column {column}");
                 }
             }
         }
@@ -204,8 +292,8 @@ fn a_split_moved_to_another_inner_point_is_21_at_the_next_row() {
             };
             for inner in [first + 1, split - 1, split + 1, last - 1] {
                 if first < inner && inner < last && inner != split {
-                    let moved = lent.with(row, 2, inner);
-                    assert_eq!(check(&moved), refused_at(BAD, row + 1));
+                    let moved = with(&lent, row, 2, inner);
+                    assert_eq!(check(&moved), refused(BAD, row + 1));
                 }
             }
         }
@@ -215,7 +303,7 @@ fn a_split_moved_to_another_inner_point_is_21_at_the_next_row() {
 /// The same line with some fault of that number in a row.
 fn at_fault(random: &mut Random, lent: &Lent, row: usize, number: u32) -> Lent {
     let (column, value) = random.pick(&faults(number, row_of(lent, row)));
-    lent.with(row, column, value)
+    with(lent, row, column, value)
 }
 
 #[test]
@@ -226,13 +314,13 @@ fn of_two_rows_at_fault_the_lower_decides() {
         if last == 0 {
             continue;
         }
-        for number in [BAD, NOT_RIGHT] {
-            for other in [BAD, NOT_RIGHT] {
+        for number in [BAD, LEAVES_OUT] {
+            for other in [BAD, LEAVES_OUT] {
                 let row = random.between(0, last - 1);
                 let higher = random.between(row + 1, last) as usize;
                 let damaged = at_fault(&mut random, &lent, row as usize, number);
                 let damaged = at_fault(&mut random, &damaged, higher, other);
-                let lowest = refused_at(number, row as usize);
+                let lowest = refused(number, row as usize);
                 assert_eq!(check(&damaged), lowest, "{other} at row {higher}");
             }
         }
@@ -240,13 +328,13 @@ fn of_two_rows_at_fault_the_lower_decides() {
 }
 
 #[test]
-fn a_row_that_is_bad_and_not_right_is_21() {
+fn a_row_that_is_bad_and_leaves_a_point_out_is_21() {
     let mut random = Random(77);
     for lent in built_lines(&mut random, 100) {
         for row in 0..lent.rows() {
-            let not_right = at_fault(&mut random, &lent, row, NOT_RIGHT);
-            let both = at_fault(&mut random, &not_right, row, BAD);
-            assert_eq!(check(&both), refused_at(BAD, row));
+            let leaves_out = at_fault(&mut random, &lent, row, LEAVES_OUT);
+            let both = at_fault(&mut random, &leaves_out, row, BAD);
+            assert_eq!(check(&both), refused(BAD, row));
         }
     }
 }
@@ -258,11 +346,11 @@ fn every_number_of_small_tables_set_to_odd_values() {
     let mut random = Random(78);
     let mut seen = Seen::default();
     for lent in small_lines() {
-        let others = [(); 6].map(|()| Lent::of_other_software(&mut random, &lent.points));
+        let others = [(); 6].map(|()| of_other_software(&mut random, &lent.points));
         for lent in [lent].iter().chain(&others) {
             for at in 0..ROW_WIDTH * lent.rows() {
                 for value in odd_values(lent.table[at]) {
-                    counted(&mut seen, &lent.with(at / ROW_WIDTH, at % ROW_WIDTH, value));
+                    seen.check(&with(lent, at / ROW_WIDTH, at % ROW_WIDTH, value));
                 }
             }
         }
@@ -276,11 +364,13 @@ fn one_number_of_the_first_an_inner_and_the_last_row() {
     let mut random = Random(79);
     let mut seen = Seen::default();
     for _ in 0..150 {
-        let lent = Lent::any_sound(&mut random);
-        for row in lent.first_inner_and_last_row(&mut random) {
+        let lent = any_sound(&mut random);
+        let last = lent.rows() - 1;
+        let inner = random.between(last.min(1) as i64, (last as i64 - 1).max(0)) as usize;
+        for row in [0, inner, last] {
             for column in 0..ROW_WIDTH {
                 for value in odd_values(lent.table[ROW_WIDTH * row + column]) {
-                    counted(&mut seen, &lent.with(row, column, value));
+                    seen.check(&with(&lent, row, column, value));
                 }
             }
         }
@@ -300,7 +390,7 @@ fn any_two_numbers_of_small_tables() {
                 for (at, kind) in [(at, kind), (other, also)] {
                     damage_at(&mut damaged.table, at / ROW_WIDTH, at % ROW_WIDTH, kind);
                 }
-                counted(&mut seen, &damaged);
+                seen.check(&damaged);
             }
         }
     }
@@ -312,9 +402,9 @@ fn tables_damaged_in_any_way() {
     let mut random = Random(80);
     let mut seen = Seen::default();
     for _ in 0..20_000 {
-        let mut lent = Lent::any_sound(&mut random);
+        let mut lent = any_sound(&mut random);
         damage(&mut random, &mut lent.table);
-        counted(&mut seen, &lent);
+        seen.check(&lent);
     }
     seen.each_at_least(10);
 }
@@ -323,7 +413,7 @@ fn tables_damaged_in_any_way() {
 fn rows_in_the_place_of_others() {
     let mut random = Random(81);
     for round in 0..4_000 {
-        let mut lent = Lent::any_sound(&mut random);
+        let mut lent = any_sound(&mut random);
         let numbers = ROW_WIDTH * lent.rows();
         let mut row = || ROW_WIDTH * random.between(0, lent.rows() as i64 - 1) as usize;
         let (to, from) = (row(), row());
@@ -341,14 +431,14 @@ fn rows_in_the_place_of_others() {
 fn tables_of_one_number_and_of_any_numbers_are_21_at_the_root() {
     let mut random = Random(82);
     for round in 0..2_000 {
-        let mut lent = Lent::any_sound(&mut random);
+        let mut lent = any_sound(&mut random);
         if round % 2 == 0 {
             let number = foreign(&mut random, 0);
             lent.table.fill(number);
         } else {
             lent.table.fill_with(|| random.any() as i64);
         }
-        assert_eq!(check(&lent), refused_at(BAD, 0));
+        assert_eq!(check(&lent), refused(BAD, 0));
     }
 }
 
@@ -364,15 +454,14 @@ fn tables_of_other_lines() {
         let segments = 1 + round % 9;
         let (as_long, longer) = (line(segments), line(segments + 1));
         let points = dice.line(segments, half);
-        for (table, told) in [(as_long, None), (longer, Some(refused_at(BAD, 0)))] {
+        for (table, told) in [(as_long, None), (longer, Some(refused(BAD, 0)))] {
             let points = points.clone();
-            let reply = counted(&mut seen, &Lent { points, table });
+            let reply = seen.check(&Lent { points, table });
             assert_eq!(told.unwrap_or(reply), reply);
         }
     }
-    // one with the same box and the same longests is accepted: some of one segment are
-    let Rows { first, inner, .. } = seen.not_right;
-    assert!(seen.accepted > 0 && first.min(inner) > 20, "{seen:?}");
+    let Rows { first, inner, .. } = seen.leaves_out;
+    assert!(seen.accepted.min(first).min(inner) > 20, "{seen:?}");
 }
 
 #[test]
@@ -380,38 +469,12 @@ fn points_moved_after_the_table_was_made() {
     let mut random = Random(83);
     let mut seen = [0; 23];
     for _ in 0..6_000 {
-        let mut lent = Lent::any_sound(&mut random);
+        let mut lent = any_sound(&mut random);
         let at = random.between(0, lent.points.len() as i64 - 1) as usize;
         lent.points[at] += random.pick(&[-100, -2, -1, 1, 2, 100]);
         seen[refused_as_a_build(&lent).number as usize] += 1;
     }
-    // a segment has become longer or shorter, but where it is mirrored
-    assert!(seen[NOT_RIGHT as usize] > 5_000, "{seen:?}");
-}
-
-/// Strips and longests are those of any place.
-#[test]
-fn a_line_moved_as_a_whole_is_accepted_while_its_boxes_hold_it() {
-    let mut random = Random(85);
-    for _ in 0..1_000 {
-        let mut lent = Lent::any_sound(&mut random);
-        for row in lent.table.chunks_exact_mut(ROW_WIDTH) {
-            row[7..LONGEST].copy_from_slice(&[-SHEET, SHEET, -SHEET, SHEET]);
-        }
-        for axis in 0..2 {
-            let along = lent.points.iter().skip(axis).step_by(2);
-            let (least, greatest) = (along.clone().min(), along.max());
-            let back = -SHEET - least.expect("a line has points");
-            let on = SHEET - greatest.expect("a line has points");
-            let step = random.between(back, on);
-            lent.points
-                .iter_mut()
-                .skip(axis)
-                .step_by(2)
-                .for_each(|number| *number += step);
-        }
-        assert_eq!(check(&lent), ACCEPTED);
-    }
+    assert!(seen[0].min(seen[LEAVES_OUT as usize]) > 500, "{seen:?}");
 }
 
 /// The refusals 1 to 6 are those of a build, with line and place; where it is not refused, only 21 and 22 are left.
@@ -419,7 +482,10 @@ fn refused_as_a_build(lent: &Lent) -> Reply {
     let built = build(&lent.points, &mut lent.table.clone());
     let checked = check(lent);
     if built == WRITTEN {
-        assert!([0, BAD, NOT_RIGHT].contains(&checked.number), "{checked:?}");
+        assert!(
+            [0, BAD, LEAVES_OUT].contains(&checked.number),
+            "{checked:?}"
+        );
     } else {
         assert_eq!(checked, built, "{lent:?}");
     }
@@ -431,10 +497,13 @@ fn points_and_lengths_are_refused_as_by_a_build() {
     let mut random = Random(84);
     let mut seen = [0; 23];
     for _ in 0..6_000 {
-        let mut lent = Lent::any_sound(&mut random);
+        let mut lent = any_sound(&mut random);
         match random.between(0, 5) {
             0 => stray(&mut random, &mut lent.points),
-            1 => lent.repeat_a_point(&mut random),
+            1 => {
+                let at = 2 * random.between(0, lent.segments() as i64 - 1) as usize;
+                lent.points.copy_within(at..at + 2, at + 2);
+            }
             2 => damage(&mut random, &mut lent.table),
             _ => {}
         }

@@ -1,5 +1,5 @@
-//! The questions that have an allowance, on built tables: word, visits, refusal, line and place are those of the second
-//! reading, and a decided word is the plain geometry's.
+//! The four questions on built tables: word, visits, refusal, line and place are those of the second reading, and a
+//! decided word is the plain geometry's.
 
 use compare::{agree, ask_plainly, inside, meet, near, Dice, Lent, ENOUGH};
 use kneukelboom::lent::word;
@@ -54,7 +54,7 @@ fn near_checks_7_before_8_and_both_after_the_lengths() {
     }
     assert_eq!(near(&line, 4, 5, FARTHEST, 9).word, word::YES);
     let mut short = line.clone();
-    short.table.truncate(35);
+    short.table.truncate(32);
     assert_eq!(near(&short, 1_000_001, 0, -1, 9).number, 6);
 }
 

@@ -1,8 +1,8 @@
 //! Widening: each number as it is, at the front, or refused with nothing written; and what the old rules let a builder
-//! write, widened and completed, becomes what is built now.
+//! write becomes what is built now.
 
-use compare::{build, complete, unwritten, widen, Dice, Lent, WRITTEN};
-use kneukelboom::lent::{line, old_table_len, table_len, word};
+use compare::{build, widen, Dice, Lent, WRITTEN};
+use kneukelboom::lent::{line, table_len, word};
 use kneukelboom::{MOST_POINTS, SHEET};
 use second::geometry::Name;
 use second::old::build_old;
@@ -54,20 +54,20 @@ fn nothing_is_widened_into_nothing_and_one_number_is_not() {
     assert_eq!(widen(&[7], &mut []).number, 6);
 }
 
-/// Builds by the old rules into a table of so many numbers more than it needs, widens points and table, and completes:
-/// that must be what both readings build of the widened points.
-fn widened_and_completed_is_built(points: &[i32], more: usize) {
-    let mut old = vec![-9; old_table_len(points.len()) + more];
+/// Builds by the old rules into a table of so many numbers more than it needs, and widens points and table: it must be
+/// what both readings build of the widened points.
+fn widened_is_built(points: &[i32], more: usize) {
+    let room = table_len(points.len()) + more;
+    let mut old = vec![-9; room];
     let built_before = build_old(Name::A, points, &mut old);
     let mut wide = vec![0; points.len()];
     assert_eq!(widen(points, &mut wide), WRITTEN);
-    let mut eleven = vec![1 << 40; old.len()];
-    assert_eq!(widen(&old, &mut eleven), WRITTEN);
-    let [mut completed, mut built] = [(); 2].map(|()| unwritten(table_len(points.len()) + more));
+    let mut table = vec![1 << 40; room];
+    assert_eq!(widen(&old, &mut table), WRITTEN);
+    let mut built = vec![-9; room];
     let reply = build(&wide, &mut built);
     assert_eq!(reply == WRITTEN, built_before.is_ok(), "{points:?}");
-    assert_eq!(complete(&wide, &eleven, &mut completed), reply);
-    assert_eq!(completed, built, "{points:?}");
+    assert_eq!(table, built, "{points:?}");
 }
 
 fn narrow(points: Vec<i64>) -> Vec<i32> {
@@ -75,7 +75,7 @@ fn narrow(points: Vec<i64>) -> Vec<i32> {
 }
 
 #[test]
-fn a_table_built_by_the_old_rules_widened_and_completed_is_the_one_that_is_built_now() {
+fn a_table_built_by_the_old_rules_and_widened_is_the_one_that_is_built_now() {
     let mut dice = Dice(82);
     for round in 0..3_000 {
         let half = dice.one_of(&[1, 2, 5, 40, 1_000, OLD_SHEET]);
@@ -84,11 +84,11 @@ fn a_table_built_by_the_old_rules_widened_and_completed_is_the_one_that_is_built
         } else {
             1 + (round % 24)
         };
-        widened_and_completed_is_built(&narrow(dice.line(segments, half)), round % 5);
-        widened_and_completed_is_built(&narrow(dice.ring(segments.max(3), half)), round % 5);
+        widened_is_built(&narrow(dice.line(segments, half)), round % 5);
+        widened_is_built(&narrow(dice.ring(segments.max(3), half)), round % 5);
     }
     let most = dice.line(MOST_POINTS - 1, OLD_SHEET);
-    widened_and_completed_is_built(&narrow(most), 3);
+    widened_is_built(&narrow(most), 3);
 }
 
 #[test]
@@ -98,7 +98,7 @@ fn lines_that_the_old_rules_refused_for_their_points_stay_refused_on_the_old_she
         let mut points = narrow(dice.line(2 + round % 9, OLD_SHEET));
         let at = 2 * dice.within(0, points.len() as i64 / 2 - 2) as usize;
         points.copy_within(at..at + 2, at + 2);
-        widened_and_completed_is_built(&points, 0);
+        widened_is_built(&points, 0);
     }
 }
 

@@ -1,22 +1,14 @@
 //! What the rules say, written out number by number where definition, code and second reading could err alike: which
-//! of two reasons to refuse is told, what a strip dismisses, what the checker says of tables from other software, which
-//! segments are listed, and what is completed. `compare` asks both readings each time.
+//! of two reasons to refuse is told, what a strip dismisses, and what the checker says of tables from other software.
+//! `compare` asks both readings each time.
 
-use compare::{
-    agree, build, check, complete, inside, longer, meet, near, refused_at, widen, Lent, ACCEPTED,
-    WRITTEN,
-};
+use compare::{agree, build, check, inside, meet, near, widen, Lent, ACCEPTED, WRITTEN};
 use kneukelboom::lent::{line, word, Reply};
-use kneukelboom::{FARTHEST, OLD_ROW_WIDTH, ROW_WIDTH};
+use kneukelboom::{FARTHEST, ROW_WIDTH};
 
 const L: [i64; 6] = [0, 0, 4, 3, 8, 0];
-const TABLE_OF_L: [i64; 36] = [
-    0, 2, 1, 0, 24, 0, 64, 0, 8, 0, 3, 25, // the root
-    0, 1, -1, 0, 0, 0, 25, 0, 4, 0, 3, 25, // its left half
-    1, 2, -1, 0, 0, 0, 25, 4, 8, 0, 3, 25, // its right half
-];
-/// As it was in 32 bits.
-const OLD_TABLE_OF_L: [i32; 33] = [
+/// Its table, as it was in 32 bits.
+const TABLE_OF_L: [i32; 33] = [
     0, 2, 1, 0, 24, 0, 64, 0, 8, 0, 3, // the root
     0, 1, -1, 0, 0, 0, 25, 0, 4, 0, 3, // its left half
     1, 2, -1, 0, 0, 0, 25, 4, 8, 0, 3, // its right half
@@ -34,13 +26,14 @@ const XMIN: usize = 7;
 const XMAX: usize = 8;
 const YMIN: usize = 9;
 const YMAX: usize = 10;
-const LONGEST: usize = 11;
 
 fn says(word: u32, visits: u32) -> Reply {
     Reply {
         word,
         visits,
-        ..WRITTEN
+        number: 0,
+        line: line::NO_LINE,
+        place: 0,
     }
 }
 
@@ -51,6 +44,11 @@ fn refused(number: u32, line: u32, place: u64, visits: u32) -> Reply {
         place,
         ..says(word::REFUSED, visits)
     }
+}
+
+/// What a refused build or check says: of line A, after no visit. The place is a row, or a point.
+fn refused_at(number: u32, place: u64) -> Reply {
+    refused(number, line::LINE_A, place, 0)
 }
 
 /// Lines that are refused for their lengths, each with its number: the first of 1, 2, 3, 6 that holds.
@@ -68,15 +66,17 @@ fn unfit() -> Vec<(u32, Lent)> {
         (3, lent(&vec![0; 8_196], 0)),      // 4,098 points, and no table
         (3, lent(&vec![0; 8_196], 9)),      // the same with too short a table
         (6, lent(&L, 0)),                   // no table
-        (6, lent(&L, 35)),                  // one number short
+        (6, lent(&L, 32)),                  // one number short
         (2, lent(&[5, 5], 99)),             // one point
-        (3, lent(&vec![0; 8_196], 98_400)), // 4,098 points
+        (3, lent(&vec![0; 8_196], 90_200)), // 4,098 points
     ]
 }
 
 /// The built line with one number of its table changed.
 fn changed(points: &[i64], row: usize, column: usize, value: i64) -> Lent {
-    Lent::built(points).with(row, column, value)
+    let mut line = Lent::built(points);
+    line.table[ROW_WIDTH * row + column] = value;
+    line
 }
 
 /// Lines of which the root row is bad, with the reason.
@@ -97,7 +97,7 @@ fn bad_root_rows() -> Vec<(String, Lent)> {
         } else {
             i64::MIN
         };
-        let line = changed(&L, 0, column, TABLE_OF_L[column] + more);
+        let line = changed(&L, 0, column, i64::from(TABLE_OF_L[column]) + more);
         (format!("column {column} is right in its low 32 bits"), line)
     });
     named.chain(high).collect()
@@ -123,8 +123,6 @@ fn bad_by_the_rules() -> Vec<(&'static str, Lent)> {
         ("xmax off the sheet", row_of_l(XMAX, 1_000_001)),
         ("ymin off the sheet", row_of_l(YMIN, -1_000_001)),
         ("ymax off the sheet", row_of_l(YMAX, 1_000_001)),
-        ("longest is 0", row_of_l(LONGEST, 0)),
-        ("longest below 0", row_of_l(LONGEST, -25)),
     ]
 }
 
@@ -317,7 +315,6 @@ fn the_row_of_the_sheets_diagonal() {
         1_000_000,
         -1_000_000,
         1_000_000,
-        8_000_000_000_000,
     ];
     assert_eq!(Lent::built(&DIAGONAL).table[..ROW_WIDTH], row);
 }
@@ -352,15 +349,14 @@ fn the_sheets_other_corner_lies_between_1414213_and_1414214_from_the_diagonal() 
 
 #[test]
 fn a_coordinate_of_1000000_is_built_and_1000001_refused_4() {
-    let mut table = [5; 13];
+    let mut table = [5; 12];
     assert_eq!(build(&[0, 0, 1_000_000, 0], &mut table), WRITTEN);
-    let square = 1_000_000_000_000;
     assert_eq!(
         table,
-        [0, 1, -1, 0, 0, 0, square, 0, 1_000_000, 0, 0, square, 5]
+        [0, 1, -1, 0, 0, 0, 1_000_000_000_000, 0, 1_000_000, 0, 0, 5]
     );
     let refusal = refused_at(4, 1);
-    assert_eq!(build(&[0, 0, 1_000_001, 0], &mut [5; 13]), refusal);
+    assert_eq!(build(&[0, 0, 1_000_001, 0], &mut [5; 12]), refusal);
 }
 
 #[test]
@@ -382,16 +378,18 @@ fn a_cmin_of_the_least_number_is_no_shortfall() {
 
 #[test]
 fn the_table_of_l_is_widened_into_35_numbers_and_refused_6_into_32() {
-    let mut room = [7; 35];
-    assert_eq!(widen(&OLD_TABLE_OF_L, &mut room), WRITTEN);
-    assert_eq!(room[..33], OLD_TABLE_OF_L.map(i64::from));
-    assert_eq!(room[33..], [7, 7]);
-    let mut short = [7; 32];
+    let mut room = [5; 35];
+    assert_eq!(widen(&TABLE_OF_L, &mut room), WRITTEN);
+    let mut built = [5; 35];
+    assert_eq!(build(&L, &mut built), WRITTEN);
+    assert_eq!(room, built);
+    assert_eq!(room[33..], [5, 5]);
+    let mut short = [5; 32];
     assert_eq!(
-        widen(&OLD_TABLE_OF_L, &mut short),
+        widen(&TABLE_OF_L, &mut short),
         refused(6, line::NO_LINE, 0, 0)
     );
-    assert_eq!(short, [7; 32]);
+    assert_eq!(short, [5; 32]);
 }
 
 // ---- the checker, by the figures of docs/RULES.md, section 8.3: L with its built table, changed; and a table of S
@@ -412,15 +410,14 @@ fn check_l(changes: &[Change]) -> Reply {
 
 #[test]
 fn as_built_or_wider_is_accepted() {
-    let six_zeros = Reply {
+    let five_zeros = Reply {
         word: 0,
         visits: 0,
         number: 0,
         line: 0,
         place: 0,
-        entries: 0,
     };
-    assert_eq!(check_l(&[]), six_zeros);
+    assert_eq!(check_l(&[]), five_zeros);
     for wider in [
         &[(0, CMAX, 25)][..],
         &[(0, XMAX, 16_383)],
@@ -428,7 +425,7 @@ fn as_built_or_wider_is_accepted() {
         &[(0, CMIN, -2_147_483_648), (0, CMAX, 2_147_483_647)],
         &[(0, CMIN, i64::MIN), (0, CMAX, i64::MAX)],
     ] {
-        assert_eq!(check_l(wider), six_zeros, "{wider:?}");
+        assert_eq!(check_l(wider), five_zeros, "{wider:?}");
     }
 }
 
@@ -495,41 +492,17 @@ fn the_lowest_row_decides_and_in_one_row_21() {
         (&[(1, TMAX, 24), (2, FIRST, 0)], refused_at(22, 1)),
         (&[(1, SPLIT, 0), (2, XMAX, 7)], refused_at(21, 1)),
         (&[(2, XMAX, 7)], refused_at(22, 2)),
-        (&[(0, LONGEST, 26), (1, SPLIT, 0)], refused_at(22, 0)),
-        (&[(0, LONGEST, 26), (0, CMAX, -1)], refused_at(21, 0)),
-        (&[(0, LONGEST, 0), (0, CMAX, 23)], refused_at(21, 0)),
-        (&[(1, SPLIT, 0), (2, LONGEST, 0)], refused_at(21, 1)),
     ] {
         assert_eq!(check_l(changes), reply, "{changes:?}");
     }
 }
 
-/// Both segments of L are 25 long, squared.
-#[test]
-fn a_longest_is_exactly_right_or_22_and_below_1_it_is_21() {
-    for longest in [26, 24, 1, 25 + (1 << 32), i64::MAX] {
-        assert_eq!(check_l(&[(1, LONGEST, longest)]), refused_at(22, 1));
-    }
-    for longest in [0, -1, -25, i64::MIN, i64::MIN + 25] {
-        assert_eq!(check_l(&[(1, LONGEST, longest)]), refused_at(21, 1));
-    }
-}
-
-/// (4,5) is 2 away from point 1, in row 1: the second visit comes to it.
-#[test]
-fn a_longest_below_1_is_10_to_a_question_that_has_no_use_for_it() {
-    let bad = changed(&L, 1, LONGEST, 0);
-    assert_eq!(near(&bad, 4, 5, 2, 9), refused(10, line::LINE_A, 1, 2));
-    let false_but_good = changed(&L, 1, LONGEST, 99);
-    assert_eq!(near(&false_but_good, 4, 5, 2, 9), says(word::YES, 2));
-}
-
 #[test]
 fn a_short_table_is_6_and_equal_neighbours_5_with_any_table() {
     let mut short = Lent::built(&L);
-    short.table.truncate(35);
+    short.table.truncate(32);
     assert_eq!(check(&short), refused_at(6, 0));
-    let tables = [vec![], vec![7; 35], vec![7; 36], Lent::built(&L).table];
+    let tables = [vec![], vec![7; 32], vec![7; 33], Lent::built(&L).table];
     for table in tables {
         let points = vec![0, 0, 4, 3, 4, 3];
         assert_eq!(check(&Lent { points, table }), refused_at(5, 1));
@@ -547,7 +520,7 @@ fn the_checker_refuses_by_1_to_6_as_a_build() {
         (&[0, 0, 4, 3, 8, i64::MIN], refused_at(4, 2)),
         (&[4, 3, 4, 3, 4, 3], refused_at(5, 0)),
     ] {
-        for numbers in [0, 35, 36] {
+        for numbers in [0, 32, 33] {
             let (points, table) = (points.to_vec(), vec![-1; numbers]);
             assert_eq!(check(&Lent { points, table }), reply);
         }
@@ -558,13 +531,13 @@ const S: [i64; 10] = [0, 0, 4, 0, 4, 4, 0, 4, 0, 0];
 
 /// It splits at 1, then at 2, then at 3.
 const V: [[i64; ROW_WIDTH]; 7] = [
-    [0, 4, 1, 0, 4, 0, 4, 0, 4, 0, 4, 16],
-    [0, 1, -1, 0, 0, 0, 16, 0, 4, 0, 0, 16],
-    [1, 4, 2, -16, 0, 0, 16, 0, 4, 0, 4, 16],
-    [1, 2, -1, 0, 0, 0, 16, 4, 4, 0, 4, 16],
-    [2, 4, 3, -16, 0, 0, 32, 0, 4, 0, 4, 16],
-    [2, 3, -1, 0, 0, 0, 16, 0, 4, 4, 4, 16],
-    [3, 4, -1, 0, 0, 0, 16, 0, 0, 0, 4, 16],
+    [0, 4, 1, 0, 4, 0, 4, 0, 4, 0, 4],
+    [0, 1, -1, 0, 0, 0, 16, 0, 4, 0, 0],
+    [1, 4, 2, -16, 0, 0, 16, 0, 4, 0, 4],
+    [1, 2, -1, 0, 0, 0, 16, 4, 4, 0, 4],
+    [2, 4, 3, -16, 0, 0, 32, 0, 4, 0, 4],
+    [2, 3, -1, 0, 0, 0, 16, 0, 4, 4, 4],
+    [3, 4, -1, 0, 0, 0, 16, 0, 0, 0, 4],
 ];
 
 fn s_with_v() -> Lent {
@@ -613,157 +586,4 @@ fn a_table_that_is_refused_22_can_say_a_false_no() {
     let tight = changed(&L, 0, CMAX, 23);
     assert_eq!(near(&tight, 4, 5, 2, 9), says(word::NO, 1));
     assert_eq!(check(&tight), refused_at(22, 0));
-}
-
-// ---- LONGER, by the figures of docs/RULES.md, section 8.4
-
-/// Its segments are 1, 9, 1 and 9 long.
-const Z: [i64; 10] = [0, 0, 1, 0, 1, 9, 2, 9, 2, 0];
-
-fn listed(entries: u32, visits: u32) -> Reply {
-    Reply {
-        entries,
-        ..says(word::LISTED, visits)
-    }
-}
-
-/// What LONGER says, and a list of so many sevens afterwards.
-fn list(lent: &Lent, length: i64, room: usize) -> (Reply, Vec<i64>) {
-    let mut list = vec![7; room];
-    (longer(lent, length, &mut list), list)
-}
-
-#[test]
-fn the_longests_of_z_are_those_of_segments_and_not_of_chords() {
-    let table = Lent::built(&Z).table;
-    let rows = table.chunks_exact(ROW_WIDTH);
-    let longests: Vec<i64> = rows.map(|row| row[LONGEST]).collect();
-    assert_eq!(longests, [81, 81, 1, 81, 81, 1, 81]);
-}
-
-#[test]
-fn the_longer_segments_of_l_and_z() {
-    let (l, z) = (Lent::built(&L), Lent::built(&Z));
-    for (lent, length, reply, entries) in [
-        (&l, 4, listed(2, 3), [0, 1, 7]),
-        (&l, 5, listed(0, 1), [7, 7, 7]),
-        (&l, 0, listed(2, 3), [0, 1, 7]),
-        (&z, 5, listed(2, 7), [1, 3, 7]),
-        (&z, 8, listed(2, 7), [1, 3, 7]),
-        (&z, 9, listed(0, 1), [7, 7, 7]),
-    ] {
-        assert_eq!(list(lent, length, 3), (reply, entries.to_vec()));
-    }
-    assert_eq!(list(&l, 2_000_000, 0), (listed(0, 1), vec![]));
-}
-
-/// From corner to corner it is 2,828,427 and a little, farther than may be asked; along a side just 2,000,000.
-#[test]
-fn the_longest_segments_of_the_sheet() {
-    let diagonal = Lent::built(&DIAGONAL);
-    assert_eq!(list(&diagonal, 2_000_000, 1), (listed(1, 1), vec![0]));
-    let side = Lent::built(&[-1_000_000, 0, 1_000_000, 0]);
-    assert_eq!(list(&side, 1_999_999, 1), (listed(1, 1), vec![0]));
-    assert_eq!(list(&side, 2_000_000, 1), (listed(0, 1), vec![7]));
-}
-
-#[test]
-fn a_short_list_is_24_with_the_visits_of_the_walk_and_stays() {
-    let too_short = refused(24, line::NO_LINE, 0, 3);
-    for room in [0, 1] {
-        let said = list(&Lent::built(&L), 4, room);
-        assert_eq!(said, (too_short, vec![7; room]));
-    }
-    assert_eq!(list(&Lent::built(&L), 4, 2).0, listed(2, 3));
-}
-
-#[test]
-fn longer_checks_lengths_then_7_then_rows_then_the_list() {
-    let bad = changed(&L, 2, LONGEST, 0);
-    for length in [-1, 2_000_001, 4 + (1 << 32), i64::MIN, i64::MAX] {
-        for room in [0, 3] {
-            let refusal = refused(7, line::NO_LINE, 0, 0);
-            assert_eq!(list(&bad, length, room), (refusal, vec![7; room]));
-        }
-        for (number, unfit) in unfit() {
-            let refusal = refused(number, line::LINE_A, 0, 0);
-            assert_eq!(list(&unfit, length, 0), (refusal, vec![]));
-        }
-    }
-    // the third visit comes to row 2, after one segment was found
-    let refusal = refused(10, line::LINE_A, 2, 3);
-    for room in [0, 3] {
-        assert_eq!(list(&bad, 4, room), (refusal, vec![7; room]));
-    }
-    for (why, bad) in bad_roots() {
-        let refusal = refused(10, line::LINE_A, 0, 1);
-        assert_eq!(list(&bad, 4, 0).0, refusal, "{why}");
-    }
-}
-
-#[test]
-fn a_longest_dismisses_its_node_whatever_it_holds_and_a_leaf_is_measured() {
-    let false_root = changed(&L, 0, LONGEST, 16);
-    assert_eq!(list(&false_root, 4, 3), (listed(0, 1), vec![7; 3]));
-    let mut too_long = changed(&L, 0, LONGEST, 99);
-    too_long.table[ROW_WIDTH + LONGEST] = 99;
-    assert_eq!(list(&too_long, 6, 3), (listed(0, 3), vec![7; 3]));
-    // 16 is not above 4 squared, 17 is; the other leaf is 25
-    let leaf = |longest| list(&changed(&L, 1, LONGEST, longest), 4, 3);
-    assert_eq!(leaf(16), (listed(1, 3), vec![1, 7, 7]));
-    assert_eq!(leaf(17), (listed(2, 3), vec![0, 1, 7]));
-}
-
-// ---- completing, by the figures of the same section
-
-/// What a completion of L's table says, with one number of its eleven in a row changed, and a list of so many sevens
-/// afterwards.
-fn complete_l(change: Option<Change>, room: usize) -> (Reply, Vec<i64>) {
-    let mut old = OLD_TABLE_OF_L.map(i64::from);
-    if let Some((row, column, value)) = change {
-        old[OLD_ROW_WIDTH * row + column] = value;
-    }
-    let mut table = vec![7; room];
-    (complete(&L, &old, &mut table), table)
-}
-
-#[test]
-fn the_table_of_l_is_completed_into_36_numbers_and_what_is_past_them_stays() {
-    assert_eq!(complete_l(None, 36), (WRITTEN, TABLE_OF_L.to_vec()));
-    let and_a_seven = [&TABLE_OF_L[..], &[7]].concat();
-    assert_eq!(complete_l(None, 37), (WRITTEN, and_a_seven));
-}
-
-#[test]
-fn a_refused_completion_writes_nothing_and_6_comes_before_the_rows() {
-    for (change, room, reply) in [
-        (None, 35, refused_at(6, 0)),
-        (Some((0, CMAX, 23)), 36, refused_at(22, 0)),
-        (Some((0, CMAX, 23)), 35, refused_at(6, 0)),
-        (Some((1, SPLIT, 0)), 36, refused_at(21, 1)),
-        (Some((1, SPLIT, 0)), 0, refused_at(6, 0)),
-        (Some((2, XMAX, 1_000_001)), 36, refused_at(21, 2)),
-        (Some((2, XMAX, 7)), 36, refused_at(22, 2)),
-    ] {
-        assert_eq!(complete_l(change, room), (reply, vec![7; room]));
-    }
-    let old = OLD_TABLE_OF_L.map(i64::from);
-    let mut table = [7; 36];
-    assert_eq!(complete(&L, &old[..32], &mut table), refused_at(6, 0));
-    assert_eq!(table, [7; 36]);
-}
-
-/// What is wider than it has to be, past the old sheet too, is completed as it is.
-#[test]
-fn a_wider_row_is_completed_as_it_is() {
-    for (column, value) in [
-        (CMAX, 25),
-        (CMIN, i64::MIN),
-        (XMAX, 16_384),
-        (XMAX, 1_000_000),
-    ] {
-        let mut wider = TABLE_OF_L.to_vec();
-        wider[column] = value;
-        assert_eq!(complete_l(Some((0, column, value)), 36), (WRITTEN, wider));
-    }
 }

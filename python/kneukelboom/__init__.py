@@ -1,10 +1,9 @@
 """Verified strip trees over whole-number lines.
 
 A `Line` is a list of points in sheet units of 1/16 metre with its strip tree. It is asked whether a point is near it,
-whether it meets another line, on which side of it a point lies, whether it agrees with another line, and which of its
-segments are longer than a length. The code that answers is proved, for every input: a no is said only where plain
-geometry over all the original segments says no, and a search that runs out of its allowance of visits says undecided,
-never no.
+whether it meets another line, on which side of it a point lies, and whether it agrees with another line. The code that
+answers is proved, for every input: a no is said only where plain geometry over all the original segments says no, and a
+search that runs out of its allowance of visits says undecided, never no.
 
 >>> from kneukelboom import Line
 >>> sketch = Line([(0, 0), (160, 120), (320, 0), (480, 0), (640, 0)])
@@ -38,8 +37,8 @@ Traceback (most recent call last):
     ...
 kneukelboom.Refusal: refused 5: points 1 and 2 of line A are equal
 
-`Line.with_table` takes a table that other software wrote, and checks it; `Line.with_old_table` takes one that version 2
-of the library stored, and `widen` the points and tables of version 1.
+`Line.with_table` takes a table that other software wrote, and checks it; `widen` takes points and tables that version 1
+of the library stored.
 """
 
 from __future__ import annotations
@@ -64,14 +63,12 @@ FEWEST_POINTS = 2
 MOST_POINTS = 4097
 #: Coordinates are -1,000,000 to 1,000,000.
 SHEET = 1000000
-#: Distances and lengths are 0 to 2,000,000.
+#: Distances are 0 to 2,000,000.
 FARTHEST = 2000000
 #: Allowances are 0 to 4,294,967,295.
 MOST_VISITS = 2**32 - 1
 #: Numbers of a table row.
-ROW_WIDTH = 12
-#: Numbers of a row in the tables of versions 1 and 2, which had no longest.
-OLD_ROW_WIDTH = 11
+ROW_WIDTH = 11
 
 Point = Tuple[SupportsIndex, SupportsIndex]
 
@@ -81,8 +78,7 @@ class Line:
 
     Coordinates are whole numbers (what is not is a `TypeError`). Refused are fewer than 2 or more than 4,097 points, a
     coordinate off the sheet, and neighbours that are equal. Only lines whose table was built, or checked and accepted,
-    exist, so the questions refuse no more than a distance or a length (7), an asked point (8) or a line that is no ring
-    (9).
+    exist, so the questions refuse no more than a distance (7), an asked point (8) or a line that is no ring (9).
 
     Lines are equal where their points are, whatever their tables: without an allowance they answer the same. The visits
     can differ where a table was not built (`with_table`), for a walk follows the splits of its table.
@@ -102,16 +98,10 @@ class Line:
     _lent: Tuple[Any, ...]  # points and table as the calls take them
 
     def __init__(self, points: Iterable[Point]) -> None:
-        self._make(_coordinates(points))
+        self._make(_coordinates(points), None)
 
     @classmethod
-    def from_numbers(
-        cls,
-        numbers: Iterable[SupportsIndex],
-        table: Optional[Iterable[SupportsIndex]] = None,
-        *,
-        old_table: Optional[Iterable[SupportsIndex]] = None,
-    ) -> Line:
+    def from_numbers(cls, numbers: Iterable[SupportsIndex], table: Optional[Iterable[SupportsIndex]] = None) -> Line:
         """The same from coordinates x, y, x, y; an odd number of them is refused.
 
         >>> Line.from_numbers([0, 0, 4, 3]) == Line([(0, 0), (4, 3)])
@@ -123,38 +113,31 @@ class Line:
 
         With the numbers of a table, row after row, it is checked as by `with_table`, and not built:
 
-        >>> Line.from_numbers([0, 0, 4, 3], [0, 1, -1, -5, 5, 0, 25, 0, 4, 0, 3, 25]).table
-        ((0, 1, -1, -5, 5, 0, 25, 0, 4, 0, 3, 25),)
-
-        With those of an old table, it is completed as by `with_old_table`:
-
-        >>> Line.from_numbers([0, 0, 4, 3], old_table=[0, 1, -1, -5, 5, 0, 25, 0, 4, 0, 3]).table
-        ((0, 1, -1, -5, 5, 0, 25, 0, 4, 0, 3, 25),)
+        >>> Line.from_numbers([0, 0, 4, 3], [0, 1, -1, -5, 5, 0, 25, 0, 4, 0, 3]).table
+        ((0, 1, -1, -5, 5, 0, 25, 0, 4, 0, 3),)
         """
-        if table is not None and old_table is not None:
-            raise TypeError("a line has one table, and not an old one too")
         line = cls.__new__(cls)
-        line._make([_whole(number, "coordinate", index) for index, number in enumerate(numbers)], table, old_table)
+        line._make([_whole(number, "coordinate", index) for index, number in enumerate(numbers)], table)
         return line
 
     @classmethod
     def with_table(cls, points: Iterable[Point], table: Iterable[Iterable[SupportsIndex]]) -> Line:
         """A line through points (x, y) with a table that other software wrote: checked, and then asked as it is.
 
-        The table is rows of 12 numbers as `table` has them; rows past the 2n-1 that a line of n segments has are not
+        The table is rows of 11 numbers as `table` has them; rows past the 2n-1 that a line of n segments has are not
         read. Refused are points that `Line` refuses, a table that is too short (6), a row that is not good for the
-        range of points that falls to it (21), and one whose strip or box leaves out a point of that range, or whose
-        longest is not that range's (22). What does not fit 64 bits is a `ValueError`.
+        range of points that falls to it (21), and one whose strip or box leaves out a point of that range (22). What
+        does not fit 64 bits is a `ValueError`.
 
         >>> square = [(0, 0), (4, 0), (4, 4), (0, 4), (0, 0)]
         >>> table = [
-        ...     (0, 4, 1, 0, 4, 0, 4, 0, 4, 0, 4, 16),  # it splits at point 1, where the builder splits at 2
-        ...     (0, 1, -1, 0, 0, 0, 16, 0, 4, 0, 0, 16),
-        ...     (1, 4, 2, -16, 0, 0, 16, 0, 4, 0, 4, 16),
-        ...     (1, 2, -1, 0, 0, 0, 16, 4, 4, 0, 4, 16),
-        ...     (2, 4, 3, -16, 0, 0, 32, 0, 4, 0, 4, 16),
-        ...     (2, 3, -1, 0, 0, 0, 16, 0, 4, 4, 4, 16),
-        ...     (3, 4, -1, 0, 0, 0, 16, 0, 0, 0, 4, 16),
+        ...     (0, 4, 1, 0, 4, 0, 4, 0, 4, 0, 4),  # it splits at point 1, where the builder splits at 2
+        ...     (0, 1, -1, 0, 0, 0, 16, 0, 4, 0, 0),
+        ...     (1, 4, 2, -16, 0, 0, 16, 0, 4, 0, 4),
+        ...     (1, 2, -1, 0, 0, 0, 16, 4, 4, 0, 4),
+        ...     (2, 4, 3, -16, 0, 0, 32, 0, 4, 0, 4),
+        ...     (2, 3, -1, 0, 0, 0, 16, 0, 4, 4, 4),
+        ...     (3, 4, -1, 0, 0, 0, 16, 0, 0, 0, 4),
         ... ]
         >>> line = Line.with_table(square, table)
         >>> line == Line(square)
@@ -164,53 +147,27 @@ class Line:
 
         With the strip of row 2 too narrow for the points (4, 4) and (0, 4):
 
-        >>> table[2] = (1, 4, 2, -15, 0, 0, 16, 0, 4, 0, 4, 16)
-        >>> Line.with_table(square, table)  # doctest: +ELLIPSIS
+        >>> table[2] = (1, 4, 2, -15, 0, 0, 16, 0, 4, 0, 4)
+        >>> Line.with_table(square, table)
         Traceback (most recent call last):
             ...
-        kneukelboom.Refusal: refused 22: row 2 of the table of line A leaves out a point of its run, or ...
+        kneukelboom.Refusal: refused 22: row 2 of the table of line A leaves out a point of its run
         """
         line = cls.__new__(cls)
-        line._make(_coordinates(points), table=_on_end(table, ROW_WIDTH))
+        line._make(_coordinates(points), itertools.chain.from_iterable(map(_row, table, itertools.count())))
         return line
 
-    @classmethod
-    def with_old_table(cls, points: Iterable[Point], table: Iterable[Iterable[SupportsIndex]]) -> Line:
-        """A line through points (x, y) with an old table, whose rows of 11 numbers have no longest.
-
-        That is what version 2 of the library had as `table`, or version 1, or what other software wrote. It is checked
-        as by `with_table`, in all but the longest, and completed: what version 1 or 2 built becomes the table that is
-        built now.
-
-        >>> line = Line.with_old_table([(0, 0), (4, 3)], [(0, 1, -1, 0, 0, 0, 25, 0, 4, 0, 3)])
-        >>> line.table == Line([(0, 0), (4, 3)]).table
-        True
-        """
-        line = cls.__new__(cls)
-        line._make(_coordinates(points), old_table=_on_end(table, OLD_ROW_WIDTH))
-        return line
-
-    def _make(
-        self,
-        numbers: List[int],
-        table: Optional[Iterable[SupportsIndex]] = None,
-        old_table: Optional[Iterable[SupportsIndex]] = None,
-    ) -> None:
-        """Of these coordinates, with its table built or, where one is given, checked or completed."""
+    def _make(self, numbers: List[int], table: Optional[Iterable[SupportsIndex]]) -> None:
+        """Of these coordinates, with its table built or, where one is given, checked."""
         # A line that is too short or too long is refused before its table is looked at: no need for the room.
         segments = len(numbers) // 2 - 1 if FEWEST_POINTS <= len(numbers) // 2 <= MOST_POINTS else 0
-        rows = max(2 * segments - 1, 0)
-        self._built = table is None and old_table is None
+        size = ROW_WIDTH * max(2 * segments - 1, 0)
+        self._built = table is None
         self._points = array("q", map(_held, numbers))
-        self._table = array("q", [0]) * (ROW_WIDTH * rows) if table is None else _wide(table, ROW_WIDTH * rows)
-        lent_points, lent_table = library.lent(self._points), library.lent(self._table)
-        self._lent = lent_points + lent_table
+        self._table = array("q", [0]) * size if table is None else _wide(itertools.islice(table, size))
+        self._lent = library.lent(self._points) + library.lent(self._table)
         self._depth = 0
-        call, passed = "build" if self._built else "check", self._lent
-        if old_table is not None:
-            old = library.lent(_wide(old_table, OLD_ROW_WIDTH * rows))
-            call, passed = "complete", lent_points + old + lent_table
-        library.ask(call, segments, lambda: segments, *passed)
+        library.ask("build" if self._built else "check", segments, lambda: segments, *self._lent)
 
     @property
     def points(self) -> Tuple[Tuple[int, int], ...]:
@@ -219,12 +176,10 @@ class Line:
 
     @property
     def table(self) -> Tuple[Tuple[int, ...], ...]:
-        """The rows of the tree in preorder.
-
-        A row is first, last, split, cmin, cmax, tmin, tmax, xmin, xmax, ymin, ymax, longest.
+        """The rows of the tree in preorder: first, last, split, cmin, cmax, tmin, tmax, xmin, xmax, ymin, ymax.
 
         >>> Line([(0, 0), (4, 3)]).table
-        ((0, 1, -1, 0, 0, 0, 25, 0, 4, 0, 3, 25),)
+        ((0, 1, -1, 0, 0, 0, 25, 0, 4, 0, 3),)
         """
         numbers = iter(self._table)
         return tuple(zip(*[numbers] * ROW_WIDTH))
@@ -315,22 +270,6 @@ class Line:
         word, line = Word(reply.word), library.LINES[reply.line]
         return Agreement(word, reply.visits, line, reply.place if line else None)
 
-    def longer_than(self, length: SupportsIndex) -> List[int]:
-        """Which segments of this line are longer than a length? Exactly that long is not longer.
-
-        Segments are counted from 0, and segment i goes from point i to point i + 1. There is no allowance: the list has
-        all of them, rising.
-
-        >>> river = Line([(0, 0), (310, 80), (560, 280), (1600, 1100), (1890, 1230)])
-        >>> river.longer_than(640)
-        [2]
-        """
-        held = _held(_whole(length, "the length"))
-        segments = array("q", [0]) * self.segments  # enough, over a built or accepted table
-        asked = self._lent + (held,) + library.lent(segments)
-        reply = library.ask("longer", self.segments, self._levels, *asked)
-        return segments[: reply.entries].tolist()
-
     def enough_visits(self) -> int:
         """Visits that always decide `near` and `side`: 2n-1."""
         return 2 * self.segments - 1
@@ -384,8 +323,8 @@ class Line:
 def widen(numbers: Iterable[SupportsIndex]) -> array[int]:
     """Points or a table that version 1 of the library stored, in the 64-bit numbers that they are now.
 
-    A table that version 1 built, widened, is number by number what version 2 built for the widened points:
-    `Line.from_numbers` takes it as `old_table`. What does not fit 32 bits is a `ValueError`.
+    A table that version 1 built, widened, is number by number the one that is built for the widened points now. What
+    does not fit 32 bits is a `ValueError`.
 
     >>> from array import array
     >>> stored = array("i", [0, 0, 4, 3, 8, 0])
@@ -406,25 +345,17 @@ def _coordinates(points: Iterable[Point]) -> List[int]:
     return [number for index, point in read for number in _pair(point, "point", index)]
 
 
-def _wide(table: Iterable[SupportsIndex], most: int) -> array[int]:
-    """The numbers of a table, up to so many."""
-    read = enumerate(itertools.islice(table, most))
-    return array("q", (_fitting(64, number, "number", index, "of the table") for index, number in read))
+def _wide(numbers: Iterable[SupportsIndex]) -> array[int]:
+    return array("q", (_fitting(64, number, "number", index, "of the table") for index, number in enumerate(numbers)))
 
 
-def _on_end(table: Iterable[Iterable[SupportsIndex]], width: int) -> Iterator[int]:
-    """The numbers of a table's rows, row after row."""
-    for index, row in enumerate(table):
-        yield from _row(row, index, width)
-
-
-def _row(row: Iterable[SupportsIndex], index: int, width: int) -> List[int]:
+def _row(row: Iterable[SupportsIndex], index: int) -> List[int]:
     try:
         numbers = [operator.index(number) for number in row]
     except TypeError:
         numbers = []
-    if len(numbers) != width:
-        raise TypeError(f"row {index} of the table is no row of {width} whole numbers: {row!r}")
+    if len(numbers) != ROW_WIDTH:
+        raise TypeError(f"row {index} of the table is no row of {ROW_WIDTH} whole numbers: {row!r}")
     return numbers
 
 

@@ -1,4 +1,4 @@
-"""What the questions with an allowance answer. Each has a third answer besides two: undecided, for want of visits."""
+"""What the questions answer. Each has a third answer besides the two: undecided, for want of visits."""
 
 from __future__ import annotations
 

@@ -1,4 +1,4 @@
-"""The nine calls of the proved library: the shared object, where it is found, and what C passes to it."""
+"""The seven calls of the proved library: the shared object, where it is found, and what C passes to it."""
 
 from __future__ import annotations
 
@@ -14,7 +14,7 @@ from . import stack
 from .refusal import Refusal
 
 #: Of kneukelboom.h; the symbol of each call ends in it.
-VERSION = 3
+VERSION = 2
 FILE = f"libkneukelboom.so.{VERSION}"
 
 REFUSED = 7
@@ -30,7 +30,6 @@ class Reply(ctypes.Structure):
         ("number", ctypes.c_uint32),
         ("line", ctypes.c_uint32),
         ("place", ctypes.c_uint64),
-        ("entries", ctypes.c_uint32),
     ]
 
 
@@ -41,12 +40,10 @@ PARAMETERS = {
     "build": _line,
     "widen": _old + _wide,
     "check": _line,
-    "complete": _wide * 3,  # points, old table, table
     "near": _line + [ctypes.c_int64] * 3 + [ctypes.c_uint32],
     "inside": _line + [ctypes.c_int64] * 2 + [ctypes.c_uint32],
     "meet": _line * 2 + [ctypes.c_uint32],
     "agree": _line * 2 + [ctypes.c_int64] + [ctypes.c_uint32],
-    "longer": _line + [ctypes.c_int64] + _wide,
 }
 
 

@@ -6,7 +6,7 @@ from typing import Optional
 
 
 class Refusal(ValueError):
-    """Why a line was not built, a table not accepted or completed, numbers not widened or a question not answered.
+    """Why a line was not built, a table not accepted, numbers not widened or a question not answered.
 
     Each number comes exactly when its reason is the first, in a fixed order, that holds. `line` is "A" (the line asked)
     or "B" (the other), whichever is at fault, or None; `place` a point (4, 5, 8 of agree) or a row (10, 21, 22),
@@ -36,12 +36,11 @@ class Refusal(ValueError):
             3: f"{line} has more than 4,097 points",
             4: f"point {place} of {line} is off the sheet",
             5: f"points {place} and {place + 1} of {line} are equal",
-            6: f"a table of {line} is too short for its points",
-            7: "the distance or length is not from 0 to 2,000,000",
+            6: f"the table of {line} is too short for its points",
+            7: "the distance is not from 0 to 2,000,000",
             8: f"point {place} of {line} is off the sheet",
             9: f"{line} is no ring: it has fewer than 4 points, or does not end where it begins",
             10: f"row {place} of the table of {line} is bad (visit {self.visits})",
             21: f"row {place} of the table of {line} is not good for its range",
-            22: f"row {place} of the table of {line} leaves out a point of its run, or its longest is not its run's",
-            24: "the list is too short for the entries",
+            22: f"row {place} of the table of {line} leaves out a point of its run",
         }.get(self.number, "no refusal of the library has this number")

@@ -13,25 +13,18 @@ def comb(count, lift=0):
     return [(i - 2048, (16000 - 3 * i) * (1 if i % 2 == 0 else -1) + lift) for i in range(count)]
 
 
-def table_without_end(points, split):
-    """Rows for a line that hold every point of the sheet, with the given split of each node."""
+def table_without_end(count, split):
+    """Rows for so many points that hold every point of the sheet, with the given split of each node."""
     sheet, strip = 1000000, 2**63 - 1
-    squares = [(x - u) ** 2 + (y - v) ** 2 for (x, y), (u, v) in zip(points, points[1:])]
-    rows, due = [], [(0, len(squares))]
+    rows, due = [], [(0, count - 1)]
     while due:
         first, last = due.pop()
         leaf = last - first == 1
         middle = -1 if leaf else split(first, last)
         if not leaf:
             due += [(middle, last), (first, middle)]
-        longest = max(squares[first:last])
-        rows.append((first, last, middle, -strip, strip, -strip, strip, -sheet, sheet, -sheet, sheet, longest))
+        rows.append((first, last, middle, -strip, strip, -strip, strip, -sheet, sheet, -sheet, sheet))
     return rows
-
-
-def without_longest(table):
-    """A table as version 2 had it."""
-    return [row[:-1] for row in table]
 
 
 #: Halves nest to the left, and to the right.
@@ -63,21 +56,19 @@ def asked():
         ring = Line((comb(4096) + comb(1))[::turned])
         answers += [a._levels(), b._levels(), ring._levels() >= 4094]
         answers += [a.near((0, 0), 0), ring.side((0, 0)), a.meets(b), a.agrees(b, 1, allowance=100_000)]
-        answers += [a.longer_than(0), a.longer_than(20_000)]
-        answers += [Line.with_old_table(a, without_longest(a.table)).table == a.table]
     return answers
 
 
 def asked_over_tables_from_elsewhere():
     """Of lines whose built trees have few levels, and of a comb."""
     answers = []
-    lines = [(x, 0) for x in range(4097)], comb(4097), [(x, 0) for x in range(4096)] + [(0, 0)]
     for split in SPLITS:
-        tables = [table_without_end(points, split) for points in lines]
-        straight, combed, ring = map(Line.with_table, lines, tables)
+        table = table_without_end(4097, split)
+        straight = Line.with_table([(x, 0) for x in range(4097)], table)
+        combed = Line.with_table(comb(4097), table)
+        ring = Line.with_table([(x, 0) for x in range(4096)] + [(0, 0)], table)
         answers += [straight._levels(), straight.near((2048, 9), 8), combed.near((0, 0), 0), ring.side((0, 9))]
         answers += [straight.meets(combed, allowance=100_000), straight.agrees(straight, 0, allowance=100_000)]
-        answers += [straight.longer_than(0), Line.with_old_table(lines[0], without_longest(tables[0]))._levels()]
     return answers
 
 
@@ -85,21 +76,19 @@ class Deep(unittest.TestCase):
     def test_every_call_from_every_thread(self):
         (roomy,) = on_stacks_of(64 << 10, asked)
         self.assertEqual([4096, 4096, True], roomy[:3])
-        self.assertEqual([list(range(4096)), list(range(2000)), True], roomy[7:10])
         for kilobytes in 256, 64:
             self.assertEqual([roomy], on_stacks_of(kilobytes, asked))
 
     def test_tables_from_elsewhere_from_every_thread(self):
         (roomy,) = on_stacks_of(64 << 10, asked_over_tables_from_elsewhere)
-        self.assertEqual([4096, Answer(Word.NO, 8191)] * 2, roomy[0:2] + roomy[8:10])
-        self.assertEqual([Line(comb(4097)).near((0, 0), 0).decided] * 2, [roomy[2].decided, roomy[10].decided])
-        self.assertEqual([list(range(4096)), 4096] * 2, roomy[6:8] + roomy[14:16])
+        self.assertEqual([4096, Answer(Word.NO, 8191)] * 2, roomy[0:2] + roomy[6:8])
+        self.assertEqual([Line(comb(4097)).near((0, 0), 0).decided] * 2, [roomy[2].decided, roomy[8].decided])
         for kilobytes in 256, 64:
             self.assertEqual([roomy], on_stacks_of(kilobytes, asked_over_tables_from_elsewhere))
 
     def test_the_last_row_of_a_deep_table_is_checked(self):
         for split in SPLITS:
-            *rows, last = table_without_end(comb(4097), split)
+            *rows, last = table_without_end(4097, split)
             table = [*rows, (*last[:8], 0, *last[9:])]
 
             def refused():
@@ -135,4 +124,4 @@ class Deep(unittest.TestCase):
         square = [(0, 0), (4, 0), (4, 4), (0, 4), (0, 0)]
         self.assertEqual(3, Line(square)._levels())
         for split in SPLITS:
-            self.assertEqual(4, Line.with_table(square, table_without_end(square, split))._levels())
+            self.assertEqual(4, Line.with_table(square, table_without_end(5, split))._levels())

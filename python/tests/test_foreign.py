@@ -5,21 +5,21 @@ import itertools
 import unittest
 from array import array
 
-from kneukelboom import Answer, Line, Refusal, Side, Word
+from kneukelboom import Answer, Line, Refusal, Side, Word, widen
 
 L = Line([(0, 0), (4, 3), (8, 0)])
 S = Line([(0, 0), (4, 0), (4, 4), (0, 4), (0, 0)])
 #: A table of S that splits at points 1, 2 and 3.
 V = (
-    (0, 4, 1, 0, 4, 0, 4, 0, 4, 0, 4, 16),
-    (0, 1, -1, 0, 0, 0, 16, 0, 4, 0, 0, 16),
-    (1, 4, 2, -16, 0, 0, 16, 0, 4, 0, 4, 16),
-    (1, 2, -1, 0, 0, 0, 16, 4, 4, 0, 4, 16),
-    (2, 4, 3, -16, 0, 0, 32, 0, 4, 0, 4, 16),
-    (2, 3, -1, 0, 0, 0, 16, 0, 4, 4, 4, 16),
-    (3, 4, -1, 0, 0, 0, 16, 0, 0, 0, 4, 16),
+    (0, 4, 1, 0, 4, 0, 4, 0, 4, 0, 4),
+    (0, 1, -1, 0, 0, 0, 16, 0, 4, 0, 0),
+    (1, 4, 2, -16, 0, 0, 16, 0, 4, 0, 4),
+    (1, 2, -1, 0, 0, 0, 16, 4, 4, 0, 4),
+    (2, 4, 3, -16, 0, 0, 32, 0, 4, 0, 4),
+    (2, 3, -1, 0, 0, 0, 16, 0, 4, 4, 4),
+    (3, 4, -1, 0, 0, 0, 16, 0, 0, 0, 4),
 )
-COLUMNS = "first last split cmin cmax tmin tmax xmin xmax ymin ymax longest".split()
+COLUMNS = "first last split cmin cmax tmin tmax xmin xmax ymin ymax".split()
 
 
 def changed(table, *changes):
@@ -70,9 +70,6 @@ class Figures(Checked):
             (21, 0, (0, "split", 2), (0, "cmax", 23)),
             (22, 1, (1, "tmax", 24), (2, "first", 0)),
             (22, 2, (2, "xmax", 7)),
-            (22, 1, (1, "longest", 26)),
-            (22, 1, (1, "longest", 24)),
-            (21, 1, (1, "longest", 0)),
         ):
             table = changed(L.table, *changes)
             self.refused(number, place, Line.with_table, L.points, table)
@@ -90,7 +87,7 @@ class Figures(Checked):
         self.refused(5, 1, Line.with_table, [(0, 0), (4, 3), (4, 3)], [])
         self.refused(5, 1, Line.with_table, [(0, 0), (4, 3), (4, 3)], left_out)
         self.refused(6, 0, Line.with_table, L.points, not_good[:2])
-        self.refused(6, 0, Line.from_numbers, on_end(L), on_end(not_good)[:35])
+        self.refused(6, 0, Line.from_numbers, on_end(L), on_end(not_good)[:32])
         self.refused(21, 0, Line.with_table, L.points, not_good)
         self.refused(22, 0, Line.with_table, L.points, left_out)
 
@@ -110,7 +107,7 @@ class Figures(Checked):
 
 class Tables(Checked):
     def test_what_is_past_the_rows_is_neither_looked_at_nor_kept(self):
-        for past in [[0] * 12], [(2**70,) * 12, None], itertools.repeat(V[2]):
+        for past in [[0] * 11], [(2**70,) * 11, None], itertools.repeat(V[2]):
             self.assertEqual(V, Line.with_table(S, itertools.chain(V, past)).table)
         for past in [-(2**63)], [9] * 10, [1.5, None], itertools.count():
             self.assertEqual(V, Line.from_numbers(on_end(S), itertools.chain(on_end(V), past)).table)
@@ -118,7 +115,7 @@ class Tables(Checked):
     def test_what_is_given_may_change_afterwards(self):
         numbers = array("q", on_end(V))
         line = Line.from_numbers(on_end(S), numbers)
-        numbers[2 * 12 + 3] = -15
+        numbers[2 * 11 + 3] = -15
         self.assertEqual(V, line.table)
 
     def test_what_is_built_is_accepted_and_answers_the_same_after_the_same_visits(self):
@@ -131,7 +128,11 @@ class Tables(Checked):
                     self.assertEqual(line.near(point, distance), again.near(point, distance))
             self.assertEqual(line.meets(L), again.meets(L))
             self.assertEqual(line.agrees(S, 300), again.agrees(S, 300))
-            self.assertEqual(line.longer_than(4), again.longer_than(4))
         square = Line.with_table(S.points, S.table)
         for point in itertools.product(range(-1, 6), repeat=2):
             self.assertEqual(S.side(point), square.side(point))
+
+    def test_a_stored_table_of_version_1_need_not_be_built_again(self):
+        points, table = array("i", on_end(L)), array("i", on_end(L.table))
+        line = Line.from_numbers(widen(points), widen(table))
+        self.assertEqual((L, L.table), (line, line.table))

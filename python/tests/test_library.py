@@ -63,27 +63,26 @@ class Header(unittest.TestCase):
         ):
             self.assertEqual(limit(file, name), getattr(kneukelboom, own))
             self.assertEqual(number(own), getattr(kneukelboom, own))
-        longest = limit("column.rt", "LONGEST")
-        for own, width in ("ROW_WIDTH", longest + 1), ("OLD_ROW_WIDTH", longest):
-            self.assertEqual((width, width), (number(own), getattr(kneukelboom, own)))
+        self.assertEqual(limit("column.rt", "YMAX") + 1, kneukelboom.ROW_WIDTH)
+        self.assertEqual(number("ROW_WIDTH"), kneukelboom.ROW_WIDTH)
 
     def test_stack(self):
         self.assertEqual(set(library.PARAMETERS), set(stack.A_LEVEL))
         levels = dict(stack.A_LEVEL)
         self.assertEqual(0, levels.pop("widen"))
         for name, own in levels.items():
-            macro = {"build": "BUILD", "check": "BUILD", "complete": "BUILD", "meet": "MEET"}.get(name, "WALK")
+            macro = {"build": "BUILD", "check": "BUILD", "meet": "MEET"}.get(name, "WALK")
             figures = re.search(rf"STACK_{macro}\(segments\) \((\d+) \+ (\d+) \* \(segments\)\)", HEADER)
             self.assertEqual((stack.ON_TOP, own), tuple(map(int, figures.groups())))
 
 
 class SharedObject(unittest.TestCase):
     def test_one_that_is_named_is_taken_or_told_of(self):
-        with mock.patch.dict(os.environ, KNEUKELBOOM_LIB="/nowhere/libkneukelboom.so.3"):
-            with self.assertRaisesRegex(ImportError, "^/nowhere/libkneukelboom.so.3 cannot be loaded: "):
+        with mock.patch.dict(os.environ, KNEUKELBOOM_LIB="/nowhere/libkneukelboom.so.2"):
+            with self.assertRaisesRegex(ImportError, "^/nowhere/libkneukelboom.so.2 cannot be loaded: "):
                 library._load()
         with mock.patch.dict(os.environ, KNEUKELBOOM_LIB="libc.so.6"):
-            with self.assertRaisesRegex(ImportError, "^libc.so.6 lacks a call of version 3: "):
+            with self.assertRaisesRegex(ImportError, "^libc.so.6 lacks a call of version 2: "):
                 library._load()
 
     def test_one_that_is_missing_is_told_how_to_make(self):

@@ -41,9 +41,8 @@ class Lines(unittest.TestCase):
     def test_copies_are_built_or_checked_anew(self):
         (first, *rest), wide = L.table, 10**15
         other = Line.with_table(L, [first[:3] + (-wide, wide, -wide, wide) + first[7:], *rest])
-        old = Line.with_old_table(L, [row[:11] for row in other.table])
         self.assertNotEqual(L.table, other.table)
-        for line in L, other, old:
+        for line in L, other:
             for made in copy.copy(line), copy.deepcopy(line), pickle.loads(pickle.dumps(line)):
                 self.assertEqual((line, line.table), (made, made.table))
 
@@ -59,24 +58,16 @@ class Lines(unittest.TestCase):
         for point, distance, allowance in ((4, 5.0), 2, 9), ((4, 5), 2.0, 9), ((4, 5), 2, 9.0), (4, 2, 9):
             self.assertRaises(TypeError, L.near, point, distance, allowance)
         self.assertRaises(TypeError, L.agrees, L, 2.0)
-        with self.assertRaisesRegex(TypeError, "^the length is no whole number: 4.0$"):
-            L.longer_than(4.0)
         self.assertEqual(L, Line([(Index(0), Index(0)), (4, 3), (Index(8), 0)]))
         self.assertTrue(L.near((Index(4), Index(5)), Index(2), Index(9)))
-        self.assertEqual([0, 1], L.longer_than(Index(4)))
 
-    def test_a_table_is_whole_numbers_in_rows_of_12_and_an_old_one_of_11(self):
-        for with_table, width in (Line.with_table, 12), (Line.with_old_table, 11):
-            first, row, last = [row[:width] for row in L.table]
-            for wrong in row[:-1], row + (0,), row[:-1] + (3.0,), "0 2 1 0 24 0", 7, None, ():
-                with self.assertRaisesRegex(TypeError, f"^row 1 of the table is no row of {width} whole numbers: "):
-                    with_table(L, [first, wrong, last])
+    def test_a_table_is_whole_numbers_in_rows_of_11(self):
+        for wrong in L.table[0][:10], L.table[0] + (0,), L.table[0][:10] + (3.0,), "0 2 1 0 24 0", 7, None, ():
+            with self.assertRaisesRegex(TypeError, "^row 1 of the table is no row of 11 whole numbers: "):
+                Line.with_table(L, [L.table[0], wrong, L.table[2]])
         numbers = list(itertools.chain(*L.table))
-        for table in {"table": [*numbers[:4], 24.0, *numbers[5:]]}, {"old_table": [*numbers[:4], 24.0]}:
-            with self.assertRaisesRegex(TypeError, "^number 4 of the table is no whole number: 24.0$"):
-                Line.from_numbers(itertools.chain(*L), **table)
-        with self.assertRaisesRegex(TypeError, "^a line has one table, and not an old one too$"):
-            Line.from_numbers(itertools.chain(*L), numbers, old_table=numbers)
+        with self.assertRaisesRegex(TypeError, "^number 4 of the table is no whole number: 24.0$"):
+            Line.from_numbers(itertools.chain(*L), [*numbers[:4], 24.0, *numbers[5:]])
         for past in 2**63, -(2**63) - 1:
             with self.assertRaisesRegex(ValueError, f"^number 4 of the table does not fit 64 bits: {past}$"):
                 Line.with_table(L, [(*L.table[0][:4], past, *L.table[0][5:]), *L.table[1:]])

@@ -1,5 +1,4 @@
-//! What the questions answer. Those with an allowance have a third answer besides the two: undecided, for want of
-//! visits.
+//! What the questions answer. Each has a third answer besides the two: undecided, for want of visits.
 
 use std::fmt;
 
@@ -97,16 +96,6 @@ pub enum Agreement {
         /// The visits made: the allowance.
         visits: u32,
     },
-}
-
-/// What [`longer_than`](crate::Line::longer_than) answers.
-#[derive(Clone, PartialEq, Eq, Hash, Debug)]
-#[must_use]
-pub struct Listed {
-    /// The segments that are longer, counted from 0 and rising.
-    pub segments: Vec<usize>,
-    /// The visits made.
-    pub visits: u32,
 }
 
 impl Answer {
@@ -230,17 +219,5 @@ impl fmt::Display for Agreement {
             ),
             Agreement::Undecided { visits } => undecided(f, *visits),
         }
-    }
-}
-
-impl fmt::Display for Listed {
-    fn fmt(&self, f: &mut fmt::Formatter) -> fmt::Result {
-        let numbers: Vec<String> = self.segments.iter().map(usize::to_string).collect();
-        match &numbers[..] {
-            [] => f.write_str("no segment")?,
-            [one] => write!(f, "segment {one}")?,
-            more => write!(f, "segments {}", more.join(", "))?,
-        }
-        write!(f, " (visits: {})", self.visits)
     }
 }

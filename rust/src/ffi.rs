@@ -1,4 +1,4 @@
-//! The only unsafe code of this crate: the nine functions of the proved archive, each behind a safe one, and what is
+//! The only unsafe code of this crate: the seven functions of the proved archive, each behind a safe one, and what is
 //! to be known of a thread's stack.
 //!
 //! Why the calls are sound:
@@ -18,7 +18,7 @@ use std::arch::asm;
 use crate::lent::Reply;
 
 extern "C" {
-    #[link_name = "kneukelboom_build_v3"]
+    #[link_name = "kneukelboom_build_v2"]
     fn kneukelboom_build(
         points: *const i64,
         points_len: usize,
@@ -26,11 +26,11 @@ extern "C" {
         table_len: usize,
     ) -> Reply;
 
-    #[link_name = "kneukelboom_widen_v3"]
+    #[link_name = "kneukelboom_widen_v2"]
     fn kneukelboom_widen(old: *const i32, old_len: usize, wide: *mut i64, wide_len: usize)
         -> Reply;
 
-    #[link_name = "kneukelboom_check_v3"]
+    #[link_name = "kneukelboom_check_v2"]
     fn kneukelboom_check(
         points: *const i64,
         points_len: usize,
@@ -38,17 +38,7 @@ extern "C" {
         table_len: usize,
     ) -> Reply;
 
-    #[link_name = "kneukelboom_complete_v3"]
-    fn kneukelboom_complete(
-        points: *const i64,
-        points_len: usize,
-        old: *const i64,
-        old_len: usize,
-        table: *mut i64,
-        table_len: usize,
-    ) -> Reply;
-
-    #[link_name = "kneukelboom_near_v3"]
+    #[link_name = "kneukelboom_near_v2"]
     fn kneukelboom_near(
         points: *const i64,
         points_len: usize,
@@ -60,7 +50,7 @@ extern "C" {
         allowance: u32,
     ) -> Reply;
 
-    #[link_name = "kneukelboom_inside_v3"]
+    #[link_name = "kneukelboom_inside_v2"]
     fn kneukelboom_inside(
         points: *const i64,
         points_len: usize,
@@ -71,7 +61,7 @@ extern "C" {
         allowance: u32,
     ) -> Reply;
 
-    #[link_name = "kneukelboom_meet_v3"]
+    #[link_name = "kneukelboom_meet_v2"]
     fn kneukelboom_meet(
         points_a: *const i64,
         points_a_len: usize,
@@ -84,7 +74,7 @@ extern "C" {
         allowance: u32,
     ) -> Reply;
 
-    #[link_name = "kneukelboom_agree_v3"]
+    #[link_name = "kneukelboom_agree_v2"]
     fn kneukelboom_agree(
         points_a: *const i64,
         points_a_len: usize,
@@ -96,17 +86,6 @@ extern "C" {
         table_b_len: usize,
         distance: i64,
         allowance: u32,
-    ) -> Reply;
-
-    #[link_name = "kneukelboom_longer_v3"]
-    fn kneukelboom_longer(
-        points: *const i64,
-        points_len: usize,
-        table: *const i64,
-        table_len: usize,
-        length: i64,
-        list: *mut i64,
-        list_len: usize,
     ) -> Reply;
 }
 
@@ -133,21 +112,6 @@ pub fn widen(old: &[i32], wide: &mut [i64]) -> Reply {
 pub fn check(points: &[i64], table: &[i64]) -> Reply {
     // SAFETY: slices, only read: see the top of this file.
     unsafe { kneukelboom_check(points.as_ptr(), points.len(), table.as_ptr(), table.len()) }
-}
-
-#[inline]
-pub fn complete(points: &[i64], old: &[i64], table: &mut [i64]) -> Reply {
-    // SAFETY: slices, and one of them `&mut`: see the top of this file.
-    unsafe {
-        kneukelboom_complete(
-            points.as_ptr(),
-            points.len(),
-            old.as_ptr(),
-            old.len(),
-            table.as_mut_ptr(),
-            table.len(),
-        )
-    }
 }
 
 #[inline]
@@ -229,22 +193,6 @@ pub fn agree(
             table_b.len(),
             distance,
             allowance,
-        )
-    }
-}
-
-#[inline]
-pub fn longer(points: &[i64], table: &[i64], length: i64, list: &mut [i64]) -> Reply {
-    // SAFETY: slices, and one of them `&mut`: see the top of this file.
-    unsafe {
-        kneukelboom_longer(
-            points.as_ptr(),
-            points.len(),
-            table.as_ptr(),
-            table.len(),
-            length,
-            list.as_mut_ptr(),
-            list.len(),
         )
     }
 }

@@ -2,12 +2,11 @@
 //!
 //! For those who keep points and tables in memory of their own. Points lie as x, y, x, y. Every call takes
 //! every input: damaged or foreign tables get refusal 10 where a row that is read is bad. [`crate::Line`] is
-//! the same with vectors of its own. [`widen`] takes points and tables that were stored as 32-bit numbers,
-//! [`complete`] tables that were stored without the longest of each row.
+//! the same with vectors of its own. [`widen`] takes points and tables that were stored as 32-bit numbers.
 //!
-//! The answers are plain geometry's over a table that [`build`] or [`complete`] wrote, or that [`check`] accepted, for
-//! these points, and that nobody changed since. No question finds out a table from elsewhere whose rows look good, but
-//! leave points out or have another longest; over it a no or an outside can be false and a list short: check it first.
+//! The answers are plain geometry's over a table that [`build`] wrote, or that [`check`] accepted, for these points,
+//! and that nobody changed since. No question finds out a table from elsewhere whose rows look good, but whose strips
+//! or boxes leave points out, and a no or an outside over it can be false: check it first.
 //!
 //! How deep a lent table goes is not known, so room on the stack is asked for the deepest that its line can have:
 //! [Threads and stack](crate#threads-and-stack).
@@ -29,11 +28,11 @@
 
 use crate::answer::{Agreement, Answer, Side};
 use crate::refusal::{Name, Refusal};
-use crate::{ffi, room, OLD_ROW_WIDTH, ROW_WIDTH};
+use crate::{ffi, room, ROW_WIDTH};
 
 /// The words of a [`Reply`], as in `kneukelboom.h`.
 pub mod word {
-    /// `build`, `complete`: the table is written; `widen`: the numbers are.
+    /// `build`: the table is written; `widen`: the numbers are.
     pub const BUILT: u32 = 0;
     /// `check`: the table is sound for these points.
     pub const ACCEPTED: u32 = 0;
@@ -47,12 +46,10 @@ pub mod word {
     pub const OUTSIDE: u32 = 4;
     /// `inside`: the point is on the ring itself.
     pub const ON: u32 = 5;
-    /// `near`, `meet`, `inside`, `agree`: more visits are needed than were allowed.
+    /// Any question: more visits are needed than were allowed.
     pub const UNDECIDED: u32 = 6;
     /// Any call: the number says why.
     pub const REFUSED: u32 = 7;
-    /// `longer`: the list is written, as many numbers of it as there are entries.
-    pub const LISTED: u32 = 8;
 }
 
 /// The lines of a [`Reply`], as in `kneukelboom.h`.
@@ -67,19 +64,10 @@ pub mod line {
 
 /// How many numbers the table of a line needs whose points are so many numbers: 2n-1 rows for n segments.
 pub const fn table_len(points_len: usize) -> usize {
-    ROW_WIDTH * rows(points_len)
-}
-
-/// The same of a table that version 1 or 2 of the library built, whose rows have no longest: what [`complete`] reads.
-pub const fn old_table_len(points_len: usize) -> usize {
-    OLD_ROW_WIDTH * rows(points_len)
-}
-
-const fn rows(points_len: usize) -> usize {
     if points_len < 4 {
         0
     } else {
-        points_len - 3
+        ROW_WIDTH * (points_len - 3)
     }
 }
 
@@ -103,18 +91,19 @@ pub fn build(points: &[i64], table: &mut [i64]) -> Reply {
 /// the wide ones: [`built`](Reply::built), or refused 6 and nothing is written, where fewer wide numbers are lent. Any
 /// lengths and any numbers; wide numbers past the old ones stay unchanged.
 ///
-/// A table that version 1 built, widened, is number by number what version 2 built for the widened points: [`complete`]
-/// takes both.
+/// A table that version 1 built, widened, is number by number the one that [`build`] writes for the widened points.
 ///
 /// ```
 /// use kneukelboom::lent;
 ///
-/// let old: [i32; 4] = [0, 0, 4, -3];
-/// let mut wide = [5; 6];
+/// let old: [i32; 11] = [0, 1, -1, 0, 0, 0, 25, 0, 4, 0, 3];
+/// let mut wide = [5; 12];
 /// lent::widen(&old, &mut wide).built()?;
-/// assert_eq!(wide, [0, 0, 4, -3, 5, 5]);
+/// let mut built = [5; 12];
+/// lent::build(&[0, 0, 4, 3], &mut built).built()?;
+/// assert_eq!(wide, built);
 ///
-/// let refusal = lent::widen(&old, &mut wide[..3]).built().unwrap_err();
+/// let refusal = lent::widen(&old, &mut wide[..10]).built().unwrap_err();
 /// assert_eq!((refusal.number, refusal.line), (6, None));
 /// # Ok::<(), kneukelboom::Refusal>(())
 /// ```
@@ -126,18 +115,18 @@ pub fn widen(old: &[i32], wide: &mut [i64]) -> Reply {
 /// Is a table sound for these points, whoever wrote it? [`accepted`](Reply::accepted), or refused by the first fault.
 ///
 /// Refusals 1 to 6 come first, as of [`build`]; then each row in the table's order: 21 where it is not good for the
-/// range of points that falls to it, 22 where its strip or box leaves out a point of that range, or its longest is not
-/// the greatest squared length of the segments there. A split may be any inner point; a strip or box may be wider than
-/// its points need, a box up to the sheet's edge. Numbers past the rows are not looked at.
+/// range of points that falls to it, 22 where its strip or box leaves out a point of that range. A split may be any
+/// inner point; a strip or box may be wider than its points need, a box up to the sheet's edge. Numbers past the rows
+/// are not looked at.
 ///
 /// ```
 /// use kneukelboom::{lent, Answer, Refusal};
 ///
 /// let points = [0, 0, 4, 3, 8, 0];
 /// let mut table = [
-///     0, 2, 1, -1, 24, 0, 64, 0, 9, 0, 3, 25, // a strip and a box that are wider than built ones
-///     0, 1, -1, 0, 0, 0, 25, 0, 4, 0, 3, 25,
-///     1, 2, -1, 0, 0, 0, 25, 4, 8, 0, 3, 25,
+///     0, 2, 1, -1, 24, 0, 64, 0, 9, 0, 3, // a strip and a box that are wider than built ones
+///     0, 1, -1, 0, 0, 0, 25, 0, 4, 0, 3,
+///     1, 2, -1, 0, 0, 0, 25, 4, 8, 0, 3,
 /// ];
 /// lent::check(&points, &table).accepted()?;
 /// let near = lent::near(&points, &table, 4, 5, 2, 10).answer()?;
@@ -147,7 +136,7 @@ pub fn widen(old: &[i32], wide: &mut [i64]) -> Reply {
 /// let near = lent::near(&points, &table, 4, 5, 2, 10).answer()?;
 /// assert_eq!(near, Answer::No { visits: 1 });
 /// let refusal = lent::check(&points, &table).accepted().unwrap_err();
-/// assert_eq!((refusal.number, refusal.place), (Refusal::ROW_NOT_RIGHT, 0));
+/// assert_eq!((refusal.number, refusal.place), (Refusal::POINT_LEFT_OUT, 0));
 /// # Ok::<(), kneukelboom::Refusal>(())
 /// ```
 ///
@@ -157,37 +146,6 @@ pub fn widen(old: &[i32], wide: &mut [i64]) -> Reply {
 pub fn check(points: &[i64], table: &[i64]) -> Reply {
     let need = room::build(levels(points));
     room::with!(need, ffi::check(points, table))
-}
-
-/// Writes the table of an old one, whose rows have no longest: what version 2 of the library stored, or version 1 and
-/// [`widen`] widened, or other software wrote. [`built`](Reply::built), or refused and nothing is written.
-///
-/// The old table needs [`old_table_len`] numbers, the lent one [`table_len`]; those past them are neither read nor
-/// written. The old table is checked first, as by [`check`] in all but the longest. What is written is accepted by
-/// [`check`], and what version 1 or 2 built becomes, number by number, the table that [`build`] writes.
-///
-/// ```
-/// use kneukelboom::lent;
-///
-/// let points = [0, 0, 4, 3];
-/// let old = [0, 1, -1, 0, 0, 0, 25, 0, 4, 0, 3];
-/// let mut completed = [5; 13];
-/// lent::complete(&points, &old, &mut completed).built()?;
-/// let mut built = [5; 13];
-/// lent::build(&points, &mut built).built()?;
-/// assert_eq!(completed, built);
-///
-/// let refusal = lent::complete(&points, &old[..10], &mut completed).built().unwrap_err();
-/// assert_eq!(refusal.to_string(), "refused 6: a table of line A is too short for its points");
-/// # Ok::<(), kneukelboom::Refusal>(())
-/// ```
-///
-/// # Panics
-/// If a thread is needed and cannot be started: [Threads and stack](crate#threads-and-stack).
-#[inline]
-pub fn complete(points: &[i64], old: &[i64], table: &mut [i64]) -> Reply {
-    let need = room::build(levels(points));
-    room::with!(need, ffi::complete(points, old, table))
 }
 
 /// Is (x, y) within the distance of some segment of the line?
@@ -249,37 +207,7 @@ pub fn agree(
     )
 }
 
-/// Which segments of the line are longer than a length? Exactly that long is not longer. Their numbers, counted from 0
-/// and rising, are written to the front of the list: [`listed`](Reply::listed) tells how many, and numbers past them
-/// stay unchanged. There is no allowance, and it is never undecided.
-///
-/// A list that is too short for them is refused 24, after the walk, and nothing is written. Over a table that was built
-/// or accepted, a list of n numbers is never too short for n segments.
-///
-/// ```
-/// use kneukelboom::{lent, Refusal};
-///
-/// let points = [0, 0, 1, 0, 1, 9, 2, 9, 2, 0];
-/// let mut table = [0; lent::table_len(10)];
-/// lent::build(&points, &mut table).built()?;
-/// let mut list = [7; 4];
-/// let entries = lent::longer(&points, &table, 5, &mut list).listed()?;
-/// assert_eq!((entries, list), (2, [1, 3, 7, 7]));
-///
-/// let refusal = lent::longer(&points, &table, 0, &mut list[..3]).listed().unwrap_err();
-/// assert_eq!((refusal.number, list), (Refusal::SHORT_LIST, [1, 3, 7, 7]));
-/// # Ok::<(), kneukelboom::Refusal>(())
-/// ```
-///
-/// # Panics
-/// If a thread is needed and cannot be started: [Threads and stack](crate#threads-and-stack).
-#[inline]
-pub fn longer(points: &[i64], table: &[i64], length: i64, list: &mut [i64]) -> Reply {
-    let need = room::walk(levels(points));
-    room::with!(need, ffi::longer(points, table, length, list))
-}
-
-/// What a call answers, in plain numbers; the methods read it as what the call can say.
+/// What a call answers, in plain numbers; the methods read it as an enum.
 #[repr(C)]
 #[derive(Clone, Copy, PartialEq, Eq, Debug)]
 pub struct Reply {
@@ -293,19 +221,17 @@ pub struct Reply {
     pub line: u32,
     /// Of the refusal, or the point of agree's no, or 0.
     pub place: u64,
-    /// With listed, how many numbers of the list were written; else 0.
-    pub entries: u32,
 }
 
 impl Reply {
-    /// Of [`build`], [`widen`] and [`complete`].
+    /// Of [`build`] and [`widen`].
     ///
     /// # Panics
     /// If this is the reply of a question.
     pub fn built(self) -> Result<(), Refusal> {
         match self.decided()? {
             word::BUILT => Ok(()),
-            other => unreachable!("build, widen and complete do not say word {other}"),
+            other => unreachable!("build and widen do not say word {other}"),
         }
     }
 
@@ -365,17 +291,6 @@ impl Reply {
             (word::UNDECIDED, _) => Agreement::Undecided { visits },
             (other, line) => unreachable!("agree does not say word {other}, line {line:?}"),
         })
-    }
-
-    /// Of [`longer`]: how many segments stand at the front of the list.
-    ///
-    /// # Panics
-    /// If this is the reply of another call.
-    pub fn listed(self) -> Result<usize, Refusal> {
-        match self.decided()? {
-            word::LISTED => Ok(self.entries as usize),
-            other => unreachable!("longer does not say word {other}"),
-        }
     }
 
     /// The word, unless it is a refusal.

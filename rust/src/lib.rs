@@ -1,10 +1,10 @@
 //! Verified strip trees over whole-number lines.
 //!
 //! A [`Line`] is a list of points in sheet units of 1/16 metre with its strip tree. It is asked whether a point
-//! is near it, whether it meets another line, whether a point lies inside it, whether it agrees with another
-//! line, and which of its segments are longer than a length. The code behind each answer is proved, for every
-//! input: a no is said only where plain geometry over all the original segments says no, and a search that runs
-//! out of its allowance of visits says [`Answer::Undecided`], never no.
+//! is near it, whether it meets another line, whether a point lies inside it, and whether it agrees with
+//! another line. The code behind each answer is proved, for every input: a no is said only where plain
+//! geometry over all the original segments says no, and a search that runs out of its allowance of visits
+//! says [`Answer::Undecided`], never no.
 //!
 //! ```
 //! use kneukelboom::{Agreement, Answer, Line, Name};
@@ -31,13 +31,13 @@
 //! # use kneukelboom::Line;
 //! let line = Line::new(&[(0, 0), (4, 3), (8, 0)])?;
 //! let refusal = line.near((4, 5), 2_000_001, 9).unwrap_err();
-//! assert_eq!(refusal.to_string(), "refused 7: the distance or length is not from 0 to 2,000,000");
+//! assert_eq!(refusal.to_string(), "refused 7: the distance is not from 0 to 2,000,000");
 //! # Ok::<(), kneukelboom::Refusal>(())
 //! ```
 //!
 //! [`lent`] has the same calls over slices that the caller lends: no heap, nothing copied. [`Line::with_table`] takes a
-//! table that other software wrote, and checks it. [`Line::with_old_table`] takes one that version 2 of the library
-//! stored, and [`widen`] the points and tables of version 1, in 32-bit numbers.
+//! table that other software wrote, and checks it. [`widen`] takes points and tables that version 1 of the library
+//! stored, in 32-bit numbers.
 //!
 //! # Threads and stack
 //!
@@ -49,7 +49,7 @@
 //! The need goes by the levels of the tree. Those of a [`Line`] are counted when it is built or its table is accepted:
 //! the tree of a survey has some tens, and its questions need some kilobytes; combs and spirals of 4,097 points, and
 //! whatever other software splits next to an end, can have 4,096, and need up to some megabytes. Building, checking,
-//! completing, and all of [`lent`], reckon with a level for each point. The README has the figures.
+//! and all of [`lent`], reckon with a level for each point. The README has the figures.
 //!
 //! Of the running thread's stack an eighth, and at least 16 KB, is left free. On a stack that is not the thread's own
 //! (a coroutine's) nothing is known of the room, and every call is made on a thread of its own. To start that takes
@@ -72,7 +72,7 @@ mod points;
 mod refusal;
 mod room;
 
-pub use answer::{Agreement, Answer, Listed, PlainSide, Side};
+pub use answer::{Agreement, Answer, PlainSide, Side};
 pub use points::Points;
 pub use refusal::{Name, Refusal};
 
@@ -87,12 +87,10 @@ pub const FEWEST_POINTS: usize = 2;
 pub const MOST_POINTS: usize = 4_097;
 /// Coordinates are -1,000,000 to 1,000,000.
 pub const SHEET: i64 = 1_000_000;
-/// Distances and lengths are 0 to 2,000,000.
+/// Distances are 0 to 2,000,000.
 pub const FARTHEST: i64 = 2_000_000;
 /// Numbers of a table row.
-pub const ROW_WIDTH: usize = 12;
-/// Numbers of a row in the tables of versions 1 and 2, which had no longest.
-pub const OLD_ROW_WIDTH: usize = 11;
+pub const ROW_WIDTH: usize = 11;
 
 /// The archive that was linked.
 #[doc(hidden)]
@@ -100,10 +98,10 @@ pub const ARCHIVE: &str = env!("KNEUKELBOOM_ARCHIVE");
 
 /// A line with its strip tree.
 ///
-/// Only lines whose table was built, or checked and accepted, exist, so the questions refuse no more than a distance or
-/// a length (7), an asked point (8) or a line that is no ring (9). Lines are equal, and hash the same, where their
-/// points are, whatever their tables: with enough visits allowed, they answer the same. The visits can differ where a
-/// table was not built, for a walk follows the splits of its table.
+/// Only lines whose table was built, or checked and accepted, exist, so the questions refuse no more than a distance
+/// (7), an asked point (8) or a line that is no ring (9). Lines are equal, and hash the same, where their points are,
+/// whatever their tables: with enough visits allowed, they answer the same. The visits can differ where a table was not
+/// built, for a walk follows the splits of its table.
 #[derive(Clone)]
 pub struct Line {
     /// x, y, x, y
@@ -166,7 +164,9 @@ impl Line {
     /// # Panics
     /// If a thread is needed and cannot be started: [Threads and stack](crate#threads-and-stack).
     pub fn from_numbers(points: Vec<i64>) -> Result<Line, Refusal> {
-        let mut table = empty_table(&points);
+        // A line that is too long is refused before its table is looked at: no need for the room.
+        let most = lent::table_len(2 * MOST_POINTS);
+        let mut table = vec![0; lent::table_len(points.len()).min(most)];
         lent::build(&points, &mut table).built()?;
         Ok(Line::sound(points, table))
     }
@@ -175,30 +175,30 @@ impl Line {
     /// asked as it is. The vectors are kept, not copied; numbers past the table's rows are dropped.
     ///
     /// Refused are points as by [`from_numbers`](Line::from_numbers), a table that is too short (6), a row that is not
-    /// good for the range of points that falls to it (21), and one whose strip or box leaves out a point of that range,
-    /// or whose longest is not that range's (22). [`lent::check`] checks alone, and leaves points and table where they
-    /// are.
+    /// good for the range of points that falls to it (21), and one whose strip or box leaves out a point of that range
+    /// (22). [`lent::check`] checks alone, and leaves points and table where they are.
     ///
     /// ```
     /// use kneukelboom::{Line, Side};
     ///
     /// let square = vec![0, 0, 4, 0, 4, 4, 0, 4, 0, 0];
     /// let mut table = vec![
-    ///     0, 4, 1, 0, 4, 0, 4, 0, 4, 0, 4, 16, // it splits at point 1, where the builder splits at 2
-    ///     0, 1, -1, 0, 0, 0, 16, 0, 4, 0, 0, 16,
-    ///     1, 4, 2, -16, 0, 0, 16, 0, 4, 0, 4, 16,
-    ///     1, 2, -1, 0, 0, 0, 16, 4, 4, 0, 4, 16,
-    ///     2, 4, 3, -16, 0, 0, 32, 0, 4, 0, 4, 16,
-    ///     2, 3, -1, 0, 0, 0, 16, 0, 4, 4, 4, 16,
-    ///     3, 4, -1, 0, 0, 0, 16, 0, 0, 0, 4, 16,
+    ///     0, 4, 1, 0, 4, 0, 4, 0, 4, 0, 4, // it splits at point 1, where the builder splits at 2
+    ///     0, 1, -1, 0, 0, 0, 16, 0, 4, 0, 0,
+    ///     1, 4, 2, -16, 0, 0, 16, 0, 4, 0, 4,
+    ///     1, 2, -1, 0, 0, 0, 16, 4, 4, 0, 4,
+    ///     2, 4, 3, -16, 0, 0, 32, 0, 4, 0, 4,
+    ///     2, 3, -1, 0, 0, 0, 16, 0, 4, 4, 4,
+    ///     3, 4, -1, 0, 0, 0, 16, 0, 0, 0, 4,
     /// ];
     /// let line = Line::with_table(square.clone(), table.clone())?;
     /// assert_eq!(line, Line::from_numbers(square.clone())?);
     /// assert_eq!(line.inside((2, 4), 9)?, Side::On { visits: 6 });
     ///
-    /// table[27] = -15; // the strip of row 2 is too narrow for the points (4, 4) and (0, 4)
+    /// table[25] = -15; // the strip of row 2 is too narrow for the points (4, 4) and (0, 4)
     /// let refusal = Line::with_table(square, table).unwrap_err();
-    /// assert_eq!((refusal.number, refusal.place), (22, 2));
+    /// let sentence = "refused 22: row 2 of the table of line A leaves out a point of its run";
+    /// assert_eq!(refusal.to_string(), sentence);
     /// # Ok::<(), kneukelboom::Refusal>(())
     /// ```
     ///
@@ -207,32 +207,6 @@ impl Line {
     pub fn with_table(points: Vec<i64>, mut table: Vec<i64>) -> Result<Line, Refusal> {
         lent::check(&points, &table).accepted()?;
         table.truncate(lent::table_len(points.len()));
-        Ok(Line::sound(points, table))
-    }
-
-    /// A line from coordinates x, y, x, y and an old table, whose rows have no longest: what version 2 of the library
-    /// stored, or version 1 and [`widen`] widened, or other software wrote. It is checked as by
-    /// [`with_table`](Line::with_table), in all but the longest, and completed; what version 1 or 2 built becomes the
-    /// table that is built now. Numbers past the old table's rows are not read.
-    ///
-    /// ```
-    /// use kneukelboom::Line;
-    ///
-    /// let stored = [
-    ///     0, 2, 1, 0, 24, 0, 64, 0, 8, 0, 3,
-    ///     0, 1, -1, 0, 0, 0, 25, 0, 4, 0, 3,
-    ///     1, 2, -1, 0, 0, 0, 25, 4, 8, 0, 3,
-    /// ];
-    /// let line = Line::with_old_table(vec![0, 0, 4, 3, 8, 0], &stored)?;
-    /// assert_eq!(line.table(), Line::new(&[(0, 0), (4, 3), (8, 0)])?.table());
-    /// # Ok::<(), kneukelboom::Refusal>(())
-    /// ```
-    ///
-    /// # Panics
-    /// If a thread is needed and cannot be started: [Threads and stack](crate#threads-and-stack).
-    pub fn with_old_table(points: Vec<i64>, old: &[i64]) -> Result<Line, Refusal> {
-        let mut table = empty_table(&points);
-        lent::complete(&points, old, &mut table).built()?;
         Ok(Line::sound(points, table))
     }
 
@@ -378,35 +352,6 @@ impl Line {
         room::with!(need, ffi::agree(p, t, q, u, distance, allowance)).agreement()
     }
 
-    /// Which segments of this line are longer than a length? Exactly that long is not longer.
-    ///
-    /// Segment i goes from point i to point i + 1. There is no allowance: the list is always whole.
-    ///
-    /// ```
-    /// # use kneukelboom::Line;
-    /// // A point each 20 metres, in units of 1/16 metre, and a bend that was skipped.
-    /// let river = Line::new(&[(0, 0), (310, 80), (560, 280), (1_600, 1_100), (1_890, 1_230)])?;
-    /// assert_eq!(river.longer_than(40 * 16)?.segments, [2]);
-    /// assert!(river.longer_than(100 * 16)?.segments.is_empty());
-    /// # Ok::<(), kneukelboom::Refusal>(())
-    /// ```
-    ///
-    /// # Panics
-    /// If a thread is needed and cannot be started: [Threads and stack](crate#threads-and-stack).
-    pub fn longer_than(&self, length: i64) -> Result<Listed, Refusal> {
-        let need = room::walk(self.levels);
-        let (points, table) = self.lent();
-        // A number for each segment: over a built or accepted table that is never too short.
-        let mut list = vec![0; self.segments()];
-        let lent = list.as_mut_slice();
-        let reply = room::with!(need, ffi::longer(points, table, length, lent));
-        list.truncate(reply.listed()?);
-        Ok(Listed {
-            segments: list.into_iter().map(|segment| segment as usize).collect(),
-            visits: reply.visits,
-        })
-    }
-
     /// Visits that always decide [`near`](Line::near) and [`inside`](Line::inside): 2n-1.
     pub fn enough_visits(&self) -> u32 {
         2 * self.count() - 1
@@ -505,12 +450,6 @@ pub fn widen(old: &[i32]) -> Vec<i64> {
     let widened = lent::widen(old, &mut wide).built();
     widened.expect("as many numbers are lent");
     wide
-}
-
-/// Room for the table of a line. One that is too long is refused before its table is looked at, and needs no more.
-fn empty_table(points: &[i64]) -> Vec<i64> {
-    let most = lent::table_len(2 * MOST_POINTS);
-    vec![0; lent::table_len(points.len()).min(most)]
 }
 
 /// The levels of the tree of a table that was built or accepted. In these rows stand in preorder, a node before its

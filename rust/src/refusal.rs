@@ -21,8 +21,8 @@ impl fmt::Display for Name {
     }
 }
 
-/// Why a build, a widening, a completion, a check or a question was refused. Each number comes exactly when its reason
-/// is the first, in a fixed order, that holds. Its constants name the numbers, in the words of `kneukelboom.h`.
+/// Why a build, a widening, a check or a question was refused. Each number comes exactly when its reason is the first,
+/// in a fixed order, that holds. Its constants name the numbers, in the words of `kneukelboom.h`.
 ///
 /// ```
 /// use kneukelboom::{Line, Refusal};
@@ -33,7 +33,7 @@ impl fmt::Display for Name {
 /// ```
 #[derive(Clone, Copy, PartialEq, Eq, Hash, Debug)]
 pub struct Refusal {
-    /// 1 to 10, 21, 22 or 24.
+    /// 1 to 10, 21 or 22.
     pub number: u32,
     /// The line whose points or table are at fault, where one is.
     pub line: Option<Name>,
@@ -50,13 +50,13 @@ impl Refusal {
     pub const TOO_FEW_POINTS: u32 = 2;
     /// More than 4,097 points.
     pub const TOO_MANY_POINTS: u32 = 3;
-    /// Building, checking, completing: a coordinate off the sheet.
+    /// Building, checking: a coordinate off the sheet.
     pub const POINT_OFF_SHEET: u32 = 4;
-    /// Building, checking, completing: two neighbours that are equal.
+    /// Building, checking: two neighbours that are equal.
     pub const EQUAL_NEIGHBOURS: u32 = 5;
-    /// A table, old or new, that is too short for its points, or a list that is shorter than the one to widen.
+    /// A table that is too short for its points, or a list that is shorter than the one to widen.
     pub const SHORT_TABLE: u32 = 6;
-    /// A distance, or a length, outside 0 to 2,000,000.
+    /// A distance outside 0 to 2,000,000.
     pub const DISTANCE: u32 = 7;
     /// An asked point off the sheet.
     pub const ASKED_OFF_SHEET: u32 = 8;
@@ -64,13 +64,10 @@ impl Refusal {
     pub const NO_RING: u32 = 9;
     /// A bad row, read at a visit: the table is not this line's.
     pub const BAD_ROW: u32 = 10;
-    /// Checking, completing: a row that is not good for the range of points that falls to it.
+    /// Checking: a row that is not good for the range of points that falls to it.
     pub const ROW_NOT_GOOD: u32 = 21;
-    /// Checking, completing: a good row whose strip or box leaves out a point of its run; checking: or whose longest is
-    /// not its run's.
-    pub const ROW_NOT_RIGHT: u32 = 22;
-    /// A lent list that is too short for the segments that are longer.
-    pub const SHORT_LIST: u32 = 24;
+    /// Checking: a good row whose strip or box leaves out a point of its run.
+    pub const POINT_LEFT_OUT: u32 = 22;
 }
 
 impl fmt::Display for Refusal {
@@ -97,15 +94,13 @@ impl fmt::Display for Refusal {
                 write!(f, "points {place} and {} of {line} are equal", place + 1)
             }
             (Refusal::SHORT_TABLE, Some(line)) => {
-                write!(f, "a table of {line} is too short for its points")
+                write!(f, "the table of {line} is too short for its points")
             }
             (Refusal::SHORT_TABLE, None) => write!(
                 f,
                 "the list to widen into is shorter than the list of 32-bit numbers"
             ),
-            (Refusal::DISTANCE, _) => {
-                write!(f, "the distance or length is not from 0 to 2,000,000")
-            }
+            (Refusal::DISTANCE, _) => write!(f, "the distance is not from 0 to 2,000,000"),
             (Refusal::ASKED_OFF_SHEET, None) => write!(f, "the asked point is off the sheet"),
             (Refusal::NO_RING, Some(line)) => write!(
                 f,
@@ -119,12 +114,10 @@ impl fmt::Display for Refusal {
                 f,
                 "row {place} of the table of {line} is not good for its range"
             ),
-            (Refusal::ROW_NOT_RIGHT, Some(line)) => write!(
+            (Refusal::POINT_LEFT_OUT, Some(line)) => write!(
                 f,
-                "row {place} of the table of {line} leaves out a point of its run, \
-                 or its longest is not its run's"
+                "row {place} of the table of {line} leaves out a point of its run"
             ),
-            (Refusal::SHORT_LIST, _) => write!(f, "the list is too short for the entries"),
             (_, Some(line)) => write!(f, "place {place} of {line}"),
             (_, None) => write!(f, "place {place}"),
         }

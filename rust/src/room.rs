@@ -13,12 +13,12 @@ use crate::lent::Reply;
 use crate::MOST_POINTS;
 
 /// The bytes of stack that building a tree of so many levels takes, as `KNEUKELBOOM_STACK_BUILD` of the header has it;
-/// checking or completing one takes no more.
+/// checking one takes no more.
 pub const fn build(levels: usize) -> usize {
     256 + 96 * levels
 }
 
-/// Of a walk down one tree, in `near`, `inside`, `agree` and `longer`.
+/// Of a walk down one tree, in `near`, `inside` and `agree`.
 pub const fn walk(levels: usize) -> usize {
     256 + 192 * levels
 }
@@ -243,20 +243,15 @@ mod tests {
         }
         let (p, q) = (&flat_ring(0), &flat_ring(9));
         for split in [left, right] {
-            let t = &table_without_end(p, split);
-            let (old, mut new) = (without_longest(t), vec![0; t.len()]);
+            let t = &table_without_end(SEGMENTS + 1, split);
             with_no_more_than_needed(build(SEGMENTS), || {
                 ffi::check(p, t).accepted().unwrap();
-                ffi::complete(p, &old, &mut new).built().unwrap();
             });
-            let mut list = [0; SEGMENTS];
             with_no_more_than_needed(walk(SEGMENTS), || {
                 let near = ffi::near(p, t, 0, 16_000, 0, u32::MAX);
                 let inside = ffi::inside(p, t, 0, 16_000, u32::MAX);
                 let agree = ffi::agree(p, t, q, t, 0, u32::MAX);
-                let longer = ffi::longer(p, t, 0, &mut list);
-                let visits = [near, inside, agree, longer].map(|reply| reply.visits);
-                assert_eq!(visits, [8_191; 4]);
+                assert_eq!([near.visits, inside.visits, agree.visits], [8_191; 3]);
             });
             with_no_more_than_needed(meet(2 * SEGMENTS), || {
                 let meet = ffi::meet(p, t, q, t, 100_000);

@@ -7,7 +7,7 @@ use std::fmt::Debug;
 use std::sync::OnceLock;
 use std::thread;
 
-use kneukelboom::{lent, Answer, Line, Listed, Side, ROW_WIDTH};
+use kneukelboom::{lent, Answer, Line, Side, ROW_WIDTH};
 use shapes::*;
 
 /// Stacks of a caller: the least that can be had (16 KB and what a thread itself needs), a small one, and Rust's usual
@@ -132,9 +132,9 @@ fn deep_tables_from_elsewhere_are_checked_and_asked() {
     let straight = numbers(&Vec::from_iter((0..=SEGMENTS as i64).map(|x| (x, 0))));
     let ring = flat_ring(0);
     for split in [left, right] {
+        let table = table_without_end(SEGMENTS + 1, split);
+        assert_eq!(levels(&table), SEGMENTS);
         let foreign = |points: &Vec<i64>| {
-            let table = table_without_end(points, split);
-            assert_eq!(levels(&table), SEGMENTS);
             let with_table = || Line::with_table(points.clone(), table.clone()).unwrap();
             the_same_on_each_stack(with_table)
         };
@@ -148,42 +148,6 @@ fn deep_tables_from_elsewhere_are_checked_and_asked() {
         assert_eq!(the_same_on_each_stack(meets), None);
         let agrees = || straight.agrees(straight, 0, 100_000).unwrap().decided();
         assert_eq!(the_same_on_each_stack(agrees), None);
-        let longer = || straight.longer_than(0).unwrap();
-        let segments = (0..SEGMENTS).collect();
-        assert_eq!(the_same_on_each_stack(longer), Listed { segments, visits });
-    }
-}
-
-#[test]
-fn deep_lines_are_asked_for_longer_segments() {
-    for line in pairs().iter().flat_map(|(a, b)| [a, b]) {
-        let squares = squares(line.points());
-        for length in [0, 6_000, 20_000, 31_990, 40_000] {
-            let longer = || line.longer_than(length).unwrap().segments;
-            let plain = (0..SEGMENTS).filter(|&i| squares[i] > length * length);
-            assert_eq!(the_same_on_each_stack(longer), Vec::from_iter(plain));
-        }
-    }
-}
-
-#[test]
-fn deep_old_tables_are_completed() {
-    let deep = |points: Vec<i64>| {
-        [left, right].map(|split| (points.clone(), table_without_end(&points, split)))
-    };
-    let tables = [flat_ring(0), numbers(&comb(0))].into_iter().flat_map(deep);
-    let built = pairs()
-        .iter()
-        .map(|(a, _)| (a.points().to_vec(), a.table().to_vec()));
-    for (points, table) in tables.chain(built) {
-        let old = without_longest(&table);
-        let completed = || {
-            Line::with_old_table(points.clone(), &old)
-                .unwrap()
-                .table()
-                .to_vec()
-        };
-        assert!(the_same_on_each_stack(completed) == table);
     }
 }
 
@@ -191,7 +155,7 @@ fn deep_old_tables_are_completed() {
 fn a_deep_comb_answers_the_same_over_another_table() {
     let built = Line::new(&comb(0)).unwrap();
     for split in [left, right] {
-        let table = table_without_end(built.points(), split);
+        let table = table_without_end(SEGMENTS + 1, split);
         let other = &Line::with_table(built.points().to_vec(), table).unwrap();
         for (point, distance) in [((0, 0), 0), ((2_048, 3_712), 5), ((-16_000, 16_000), 9)] {
             let near = |line: &Line| line.near(point, distance, 9_999).unwrap().decided();
@@ -205,10 +169,10 @@ fn the_last_row_of_a_deep_table_is_checked() {
     let points = numbers(&comb(0));
     let last_row = 2 * SEGMENTS - 2;
     for split in [left, right] {
-        // Its split, where its box ends, and its longest.
-        for (column, number, refused) in [(2, 0, 21), (8, 0, 22), (11, 0, 21), (11, 1, 22)] {
-            let mut table = table_without_end(&points, split);
-            table[ROW_WIDTH * last_row + column] = number;
+        // Its split, and where its box ends.
+        for (column, refused) in [(2, 21), (8, 22)] {
+            let mut table = table_without_end(SEGMENTS + 1, split);
+            table[ROW_WIDTH * last_row + column] = 0;
             let check = || lent::check(&points, &table).accepted();
             let refusal = the_same_on_each_stack(check).unwrap_err();
             assert_eq!((refusal.number, refusal.place), (refused, last_row));
@@ -220,7 +184,7 @@ fn the_last_row_of_a_deep_table_is_checked() {
 fn the_deepest_lent_tables_are_walked() {
     let (low, high) = (flat_ring(0), flat_ring(9));
     for split in [left, right] {
-        let table = table_without_end(&low, split);
+        let table = table_without_end(low.len() / 2, split);
         let visits = 2 * SEGMENTS as u32 - 1;
         let near = || lent::near(&low, &table, 0, 16_000, 0, u32::MAX).answer();
         assert_eq!(the_same_on_each_stack(near), Ok(Answer::No { visits }));
@@ -234,12 +198,5 @@ fn the_deepest_lent_tables_are_walked() {
         let agree = || lent::agree(&low, &table, &high, &table, 0, visits).agreement();
         let no = the_same_on_each_stack(agree).unwrap();
         assert_eq!(no.decided(), Some(false));
-        let longer = || {
-            let mut list = vec![-1; SEGMENTS];
-            let listed = lent::longer(&low, &table, 0, &mut list).listed();
-            (listed, list)
-        };
-        let all = Vec::from_iter(0..SEGMENTS as i64);
-        assert_eq!(the_same_on_each_stack(longer), (Ok(SEGMENTS), all));
     }
 }

@@ -1,17 +1,7 @@
 //! The figures of the rules, asked of the archive through the safe calls. P1 to P12 are theorems about the
 //! definitions; here the compiled code is held to them, and to the figures at each limit.
 
-mod shapes;
-
-use kneukelboom::{lent, widen, Agreement, Answer, Line, Listed, Name, Refusal, Side, ROW_WIDTH};
-use shapes::without_longest;
-
-/// What version 1 built for L.
-const L_OF_VERSION_1: [i32; 33] = [
-    0, 2, 1, 0, 24, 0, 64, 0, 8, 0, 3, // the root,
-    0, 1, -1, 0, 0, 0, 25, 0, 4, 0, 3, // its left half
-    1, 2, -1, 0, 0, 0, 25, 4, 8, 0, 3, // and its right half
-];
+use kneukelboom::{lent, widen, Agreement, Answer, Line, Name, Refusal, Side, ROW_WIDTH};
 
 fn l() -> Line {
     Line::new(&[(0, 0), (4, 3), (8, 0)]).expect("L is sound")
@@ -36,9 +26,9 @@ const B: Option<Name> = Some(Name::B);
 #[test]
 fn p1_rows_of_l() {
     let rows = [
-        [0, 2, 1, 0, 24, 0, 64, 0, 8, 0, 3, 25],
-        [0, 1, -1, 0, 0, 0, 25, 0, 4, 0, 3, 25],
-        [1, 2, -1, 0, 0, 0, 25, 4, 8, 0, 3, 25],
+        [0, 2, 1, 0, 24, 0, 64, 0, 8, 0, 3],
+        [0, 1, -1, 0, 0, 0, 25, 0, 4, 0, 3],
+        [1, 2, -1, 0, 0, 0, 25, 4, 8, 0, 3],
     ];
     assert_eq!(l().table(), rows.concat());
 }
@@ -118,7 +108,7 @@ fn points_to_4097() {
     let straight = |count: i64| -> Vec<(i64, i64)> { (0..count).map(|i| (i, 0)).collect() };
     let longest = Line::new(&straight(4_097)).unwrap();
     assert_eq!(longest.segments(), 4_096);
-    assert_eq!(longest.table().len(), 98_292);
+    assert_eq!(longest.table().len(), 90_101);
     assert_eq!(Line::new(&straight(4_098)).unwrap_err(), refusal(3, A, 0));
     assert_eq!(Line::new(&straight(1)).unwrap_err(), refusal(2, A, 0));
     assert_eq!(Line::new(&[]).unwrap_err(), refusal(2, A, 0));
@@ -141,22 +131,20 @@ fn neighbours_after_all_coordinates() {
 }
 
 #[test]
-fn a_table_of_36_serves_l_and_35_does_not() {
+fn a_table_of_33_serves_l_and_32_does_not() {
     let points = [0, 0, 4, 3, 8, 0];
-    let mut table = [9; 37];
+    let mut table = [9; 34];
     assert_eq!(
-        lent::build(&points, &mut table[..35]).built(),
+        lent::build(&points, &mut table[..32]).built(),
         Err(refusal(6, A, 0))
     );
-    assert_eq!(table, [9; 37], "a refused build writes nothing");
+    assert_eq!(table, [9; 34], "a refused build writes nothing");
     assert_eq!(lent::build(&points, &mut table).built(), Ok(()));
-    assert_eq!(table[36], 9, "numbers past the rows stay");
+    assert_eq!(table[33], 9, "numbers past the rows stay");
     assert_eq!(
-        lent::near(&points, &table[..35], 4, 5, 2, 10).answer(),
+        lent::near(&points, &table[..32], 4, 5, 2, 10).answer(),
         Err(refusal(6, A, 0))
     );
-    let longer = lent::longer(&points, &table[..35], 4, &mut [7; 3]).listed();
-    assert_eq!(longer, Err(refusal(6, A, 0)));
 }
 
 #[test]
@@ -202,8 +190,7 @@ fn asked_points_on_the_sheet() {
 fn the_sheets_diagonal() {
     let g = Line::new(&[(-1_000_000, -1_000_000), (1_000_000, 1_000_000)]).unwrap();
     let (low, high) = (-1_000_000, 1_000_000);
-    let square = 8_000_000_000_000;
-    let row = [0, 1, -1, 0, 0, 0, square, low, high, low, high, square];
+    let row = [0, 1, -1, 0, 0, 0, 8_000_000_000_000, low, high, low, high];
     assert_eq!(g.table(), row);
     for corner in [(high, low), (low, high)] {
         let near = |distance| g.near(corner, distance, 9);
@@ -258,9 +245,6 @@ fn every_rule_for_rows_is_checked() {
         (9, 4),
         (9, -off),
         (10, off),
-        (11, 0),
-        (11, -1),
-        (11, i64::MIN),
         (0, i64::MAX),
         (1, 2 + (1 << 32)),
         (2, i64::MIN),
@@ -365,16 +349,16 @@ fn rows_of_the_widest_numbers_have_an_answer_or_a_refusal() {
             let mut table = s.table().to_vec();
             table[at] = number;
             let (row, column) = (at / ROW_WIDTH, at % ROW_WIDTH);
-            // A strip that is wider than its points is no fault, and IN does not ask for the longest.
-            let harmless = matches!((column, number < 0), (3 | 5, true) | (4 | 6 | 11, false));
+            // A strip that is wider than its points is no fault.
+            let wider = matches!((column, number < 0), (3 | 5, true) | (4 | 6, false));
             let side = lent::inside(s.points(), &table, 2, 2, 9).side();
             match side {
                 Ok(side) => {
-                    assert!(harmless, "row {row}, column {column}, {number}");
+                    assert!(wider, "row {row}, column {column}, {number}");
                     assert_eq!(side, Side::Inside { visits: 7 });
                 }
                 Err(refused) => {
-                    assert!(!harmless, "row {row}, column {column}, {number}");
+                    assert!(!wider, "row {row}, column {column}, {number}");
                     assert_eq!((refused.number, refused.place), (10, row));
                 }
             }
@@ -382,33 +366,30 @@ fn rows_of_the_widest_numbers_have_an_answer_or_a_refusal() {
     }
 }
 
-/// The 33 numbers that version 1 had of L, into 35 numbers that are all 7, and into 32.
+/// L's table as 32-bit numbers, into 35 numbers that are all 5, and into 32.
 #[test]
-fn what_version_1_had_of_l_is_widened_and_completed() {
-    let mut wide = [7; 35];
-    let short = lent::widen(&L_OF_VERSION_1, &mut wide[..32]).built();
+fn a_widened_table_is_the_built_one() {
+    let old: Vec<i32> = l().table().iter().map(|&number| number as i32).collect();
+    let mut wide = [5; 35];
+    let short = lent::widen(&old, &mut wide[..32]).built();
     assert_eq!(short, Err(refusal(6, None, 0)));
-    assert_eq!(wide, [7; 35], "a refused widening writes nothing");
-    assert_eq!(lent::widen(&L_OF_VERSION_1, &mut wide).built(), Ok(()));
-    assert_eq!(wide[..33], L_OF_VERSION_1.map(i64::from));
-    assert_eq!(wide[33..], [7, 7], "numbers past the old ones stay");
-    assert_eq!(widen(&L_OF_VERSION_1), wide[..33]);
-    let line = Line::with_old_table(l().points().to_vec(), &wide[..33]).unwrap();
-    assert_eq!(line.table(), l().table());
+    assert_eq!(wide, [5; 35], "a refused widening writes nothing");
+    assert_eq!(lent::widen(&old, &mut wide).built(), Ok(()));
+    assert_eq!(wide[..33], *l().table());
+    assert_eq!(wide[33..], [5, 5], "numbers past the old ones stay");
+    let near = lent::near(l().points(), &wide, 4, 5, 2, 10).answer();
+    assert_eq!(near, Ok(Answer::Yes { visits: 2 }));
+    assert_eq!(widen(&old), l().table());
 }
 
 /// What the old sheet holds is as it was: from corner to corner of it, |u|² still fits 32 bits.
 #[test]
 fn the_old_sheets_tables_fit_32_bits() {
     let line = Line::new(&[(-16_383, -16_383), (16_383, -16_383), (16_383, 16_383)]).unwrap();
-    let narrow = |number: i64| i32::try_from(number).expect("it fits");
-    let old: Vec<i32> = without_longest(line.table())
-        .into_iter()
-        .map(narrow)
-        .collect();
+    let narrow = |&number: &i64| i32::try_from(number).expect("it fits");
+    let old: Vec<i32> = line.table().iter().map(narrow).collect();
     assert_eq!(old.iter().max(), Some(&2_147_221_512), "2 * 32,766²");
-    let again = Line::with_old_table(line.points().to_vec(), &widen(&old)).unwrap();
-    assert_eq!(again.table(), line.table());
+    assert_eq!(widen(&old), line.table());
 }
 
 #[test]
@@ -462,7 +443,7 @@ fn refusals_are_sentences() {
         numbers.push(number);
     }
     numbers.dedup();
-    assert_eq!(numbers, Vec::from_iter((1..=10).chain([21, 22, 24])));
+    assert_eq!(numbers, Vec::from_iter((1..=10).chain([21, 22])));
 }
 
 #[test]
@@ -504,15 +485,4 @@ fn answers_are_sentences() {
         Side::On { visits: 4 }.to_string(),
         "on the ring (visits: 4)"
     );
-    let listed = |segments: &[usize]| {
-        let segments = segments.to_vec();
-        Listed {
-            segments,
-            visits: 7,
-        }
-        .to_string()
-    };
-    assert_eq!(listed(&[]), "no segment (visits: 7)");
-    assert_eq!(listed(&[3]), "segment 3 (visits: 7)");
-    assert_eq!(listed(&[1, 3]), "segments 1, 3 (visits: 7)");
 }

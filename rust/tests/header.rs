@@ -1,4 +1,4 @@
-//! Three texts declare the same nine functions and one struct: the proved source
+//! Three texts declare the same seven functions and one struct: the proved source
 //! `crates/kneukelboom_c/src/lib.rt`, the C header `include/kneukelboom.h`, and this crate's `src/ffi.rs` and
 //! `src/lent.rs`. Each is read here into an `Interface` in C's words, and any difference in a name, an order or a
 //! type fails. The self-test alters each text in every way that matters and demands that it is found out.
@@ -370,10 +370,8 @@ fn rust_is_the_header() {
     let (c, own) = (header(&header_text()).unwrap(), rust(&rust_text()).unwrap());
     assert_eq!(c, own, "\nthe header:\n{c}\nRust:\n{own}");
     let names: Vec<&str> = own.functions.iter().map(|f| f.name.as_str()).collect();
-    let nine = [
-        "agree", "build", "check", "complete", "inside", "longer", "meet", "near", "widen",
-    ];
-    assert_eq!(names, nine.map(|name| format!("kneukelboom_{name}")));
+    let seven = ["agree", "build", "check", "inside", "meet", "near", "widen"];
+    assert_eq!(names, seven.map(|name| format!("kneukelboom_{name}")));
 }
 
 #[test]
@@ -389,7 +387,6 @@ fn numbers_are_the_headers() {
         ("ON", word::ON),
         ("UNDECIDED", word::UNDECIDED),
         ("REFUSED", word::REFUSED),
-        ("LISTED", word::LISTED),
         ("NO_LINE", line::NO_LINE),
         ("LINE_A", line::LINE_A),
         ("LINE_B", line::LINE_B),
@@ -404,8 +401,7 @@ fn numbers_are_the_headers() {
         ("REFUSED_NO_RING", Refusal::NO_RING),
         ("REFUSED_BAD_ROW", Refusal::BAD_ROW),
         ("REFUSED_ROW_NOT_GOOD", Refusal::ROW_NOT_GOOD),
-        ("REFUSED_ROW_NOT_RIGHT", Refusal::ROW_NOT_RIGHT),
-        ("REFUSED_SHORT_LIST", Refusal::SHORT_LIST),
+        ("REFUSED_POINT_LEFT_OUT", Refusal::POINT_LEFT_OUT),
     ] {
         assert_eq!(
             header_number(&format!("KNEUKELBOOM_{name}")),
@@ -441,14 +437,9 @@ fn limits_are_the_proved_sources() {
             kneukelboom::FARTHEST as usize,
         ),
         (
-            constant(&columns, "LONGEST") + 1,
+            constant(&columns, "YMAX") + 1,
             "ROW_WIDTH",
             kneukelboom::ROW_WIDTH,
-        ),
-        (
-            constant(&columns, "LONGEST"),
-            "OLD_ROW_WIDTH",
-            kneukelboom::OLD_ROW_WIDTH,
         ),
     ] {
         assert_eq!(proved, own as u64, "{name}");
@@ -458,22 +449,14 @@ fn limits_are_the_proved_sources() {
             "{name}"
         );
     }
-    assert!(limits.contains("pub const WIDTH: usize = column::LONGEST + 1;"));
-    assert!(limits.contains("pub const OLD_WIDTH: usize = column::LONGEST;"));
-    for old in ["", "OLD_"] {
-        let of_points = format!("KNEUKELBOOM_{old}ROW_WIDTH * ((points_len) - 3)");
-        let length = format!("{old}TABLE_LEN(points_len) ((points_len) < 4 ? 0 : {of_points})");
-        assert!(header_text().contains(&format!("#define KNEUKELBOOM_{length}")));
-    }
+    assert!(limits.contains("pub const WIDTH: usize = column::YMAX + 1;"));
+    let lengths = "((points_len) < 4 ? 0 : KNEUKELBOOM_ROW_WIDTH * ((points_len) - 3))";
+    assert!(header_text().contains(lengths));
     let rows = [0, 1, 3, 2 * (kneukelboom::MOST_POINTS - 1) - 1];
     let numbers = [3, 4, 6, 2 * kneukelboom::MOST_POINTS];
     assert_eq!(
         numbers.map(lent::table_len),
         rows.map(|rows| kneukelboom::ROW_WIDTH * rows)
-    );
-    assert_eq!(
-        numbers.map(lent::old_table_len),
-        rows.map(|rows| kneukelboom::OLD_ROW_WIDTH * rows)
     );
 }
 
@@ -489,11 +472,10 @@ pub struct Reply {
     pub number: u32,
     pub line: u32,
     pub place: u64,
-    pub entries: u32,
 }
 
 #[no_mangle]
-pub extern "C" fn kneukelboom_build_v3(points: &[i64], table: &mut [i64]) -> Reply
+pub extern "C" fn kneukelboom_build_v2(points: &[i64], table: &mut [i64]) -> Reply
     ensures { λ r. ⌜ r ≡ said (now (points .entry)) ⌝ }
 {
     told(points, table)
@@ -502,36 +484,29 @@ pub extern "C" fn kneukelboom_build_v3(points: &[i64], table: &mut [i64]) -> Rep
 fn told(points: &[i64]) -> Reply
     requires { ⌜ 1 ≤ 2 ⌝ }
 {
-    Reply { word: 0, visits: 0, number: 0, line: 0, place: 0, entries: 0 }
+    Reply { word: 0, visits: 0, number: 0, line: 0, place: 0 }
 }
 
 #[no_mangle]
-pub extern "C" fn kneukelboom_widen_v3(old: &[i32], new: &mut [i64]) -> Reply {
+pub extern "C" fn kneukelboom_widen_v2(old: &[i32], new: &mut [i64]) -> Reply {
     told(old, new)
 }
 
 #[no_mangle]
-pub extern "C" fn kneukelboom_check_v3(points: &[i64], table: &[i64]) -> Reply { told(points) }
+pub extern "C" fn kneukelboom_check_v2(points: &[i64], table: &[i64]) -> Reply { told(points) }
 
 #[no_mangle]
-pub extern "C" fn kneukelboom_complete_v3(points: &[i64], old: &[i64], table: &mut [i64]) -> Reply
-    ensures { λ r. ⌜ r ≡ said (now (points .entry)) ⌝ }
-{
-    told(points, old)
-}
-
-#[no_mangle]
-pub extern "C" fn kneukelboom_near_v3(
+pub extern "C" fn kneukelboom_near_v2(
     points: &[i64], table: &[i64], x: i64, y: i64, distance: i64, allowance: u32) -> Reply {
     told(points, table)
 }
 
 #[no_mangle]
-pub extern "C" fn kneukelboom_inside_v3(
+pub extern "C" fn kneukelboom_inside_v2(
     points: &[i64], table: &[i64], x: i64, y: i64, allowance: u32) -> Reply { told(points) }
 
 #[no_mangle]
-pub extern "C" fn kneukelboom_meet_v3(
+pub extern "C" fn kneukelboom_meet_v2(
     points_a: &[i64],
     table_a: &[i64],
     points_b: &[i64],
@@ -542,7 +517,7 @@ pub extern "C" fn kneukelboom_meet_v3(
 }
 
 #[no_mangle]
-pub extern "C" fn kneukelboom_agree_v3(
+pub extern "C" fn kneukelboom_agree_v2(
     points_a: &[i64],
     table_a: &[i64],
     points_b: &[i64],
@@ -552,10 +527,6 @@ pub extern "C" fn kneukelboom_agree_v3(
 ) -> Reply {
     told(points_a)
 }
-
-#[no_mangle]
-pub extern "C" fn kneukelboom_longer_v3(
-    points: &[i64], table: &[i64], length: i64, list: &mut [i64]) -> Reply { told(points) }
 "#;
 
 /// Each alteration must make a text unreadable or different from the header.
@@ -592,38 +563,17 @@ fn altered_rattle_is_found_out() {
                 "new: &mut [i64], old: &[i32]",
             ),
             (
-                "check_v3(points: &[i64], table: &[i64])",
-                "check_v3(points: &[i64], table: &mut [i64])",
+                "check_v2(points: &[i64], table: &[i64])",
+                "check_v2(points: &[i64], table: &mut [i64])",
             ),
             (
-                "check_v3(points: &[i64], table: &[i64])",
-                "check_v3(points: &[i64], table: &[i64], allowance: u32)",
-            ),
-            (
-                "complete_v3(points: &[i64], old: &[i64], table: &mut [i64])",
-                "complete_v3(points: &[i64], table: &mut [i64], old: &[i64])",
-            ),
-            (
-                "complete_v3(points: &[i64], old: &[i64]",
-                "complete_v3(points: &[i64], old: &[i32]",
-            ),
-            (
-                "old: &[i64], table: &mut [i64]",
-                "old: &[i64], table: &[i64]",
-            ),
-            (
-                "length: i64, list: &mut [i64]",
-                "length: u32, list: &mut [i64]",
-            ),
-            ("length: i64, list: &mut [i64]", "length: i64, list: &[i64]"),
-            (
-                "length: i64, list: &mut [i64]",
-                "list: &mut [i64], length: i64",
+                "check_v2(points: &[i64], table: &[i64])",
+                "check_v2(points: &[i64], table: &[i64], allowance: u32)",
             ),
             ("distance: i64, ", ""),
-            ("kneukelboom_meet_v3", "kneukelboom_meets_v3"),
-            ("kneukelboom_meet_v3", "kneukelboom_meet_v4"),
-            ("kneukelboom_meet_v3", "kneukelboom_meet"),
+            ("kneukelboom_meet_v2", "kneukelboom_meets_v2"),
+            ("kneukelboom_meet_v2", "kneukelboom_meet_v3"),
+            ("kneukelboom_meet_v2", "kneukelboom_meet"),
             ("#[no_mangle]\n", ""),
             ("#[no_mangle]\npub extern", "#[no_mangle]\nextern"),
             ("    ensures {", "    requires { ⌜ 1 ≤ 2 ⌝ }\n    ensures {"),
@@ -633,9 +583,7 @@ fn altered_rattle_is_found_out() {
             ),
             ("    pub line: u32,\n", ""),
             ("pub place: u64", "pub place: u32"),
-            ("    pub entries: u32,\n", ""),
-            ("pub entries: u32,", "pub entries: u64,"),
-            ("pub entries: u32,", "pub entries: u32,\n    pub more: u64,"),
+            ("pub place: u64,", "pub place: u64,\n    pub more: u64,"),
             ("#[repr(C)]", ""),
             (") -> Reply {", ") -> u32 {"),
             (
@@ -661,8 +609,8 @@ fn altered_header_is_found_out() {
                 "uint32_t kneukelboom_meet(",
             ),
             (
+                "#define KNEUKELBOOM_VERSION 2",
                 "#define KNEUKELBOOM_VERSION 3",
-                "#define KNEUKELBOOM_VERSION 4",
             ),
             ("#define kneukelboom_meet ", "#define kneukelboom_meets "),
             (
@@ -693,17 +641,6 @@ fn altered_header_is_found_out() {
                 "#define kneukelboom_check KNEUKELBOOM_SYMBOL(kneukelboom_check_v,",
                 "#define kneukelboom_check KNEUKELBOOM_SYMBOL(kneukelboom_build_v,",
             ),
-            ("const int64_t *old,", "const int32_t *old,"),
-            ("const int64_t *old,", "int64_t *old,"),
-            (
-                "  int64_t *table, size_t table_len);",
-                "  const int64_t *table, size_t table_len);",
-            ),
-            ("int64_t length,", "uint32_t length,"),
-            ("int64_t *list, size_t list_len", "int64_t *list"),
-            ("int64_t *list,", "const int64_t *list,"),
-            ("    uint32_t entries; ", "    uint64_t entries; "),
-            ("    uint32_t entries; ", "    /* gone */ "),
             ("    uint32_t line; ", "    uint64_t line; "),
             ("    uint64_t place; ", "    /* gone */ "),
             ("    uint32_t word; ", "    uint32_t first; uint32_t word; "),
@@ -730,16 +667,6 @@ fn altered_rust_is_found_out() {
             ("table: *mut i64", "table: *const i64"),
             ("old: *const i32", "old: *const i64"),
             ("wide: *mut i64", "wide: *const i64"),
-            ("old: *const i64", "old: *mut i64"),
-            (
-                "old_len: usize,\n        table: *mut i64",
-                "old_len: usize,\n        table: *const i64",
-            ),
-            ("length: i64", "length: u32"),
-            ("list: *mut i64", "list: *const i64"),
-            ("\"kneukelboom_longer_v3\"", "\"kneukelboom_near_v3\""),
-            ("    pub entries: u32,", "    pub entries: u64,"),
-            ("    pub entries: u32,\n", ""),
             (
                 "points: *const i64,\n        points_len: usize,",
                 "points_len: usize,\n        points: *const i64,",
@@ -748,10 +675,10 @@ fn altered_rust_is_found_out() {
                 "points_len: usize,\n        table",
                 "points_len: u32,\n        table",
             ),
-            ("\"kneukelboom_check_v3\"", "\"kneukelboom_build_v3\""),
+            ("\"kneukelboom_check_v2\"", "\"kneukelboom_build_v2\""),
             ("fn kneukelboom_meet(", "fn kneukelboom_meets("),
-            ("\"kneukelboom_meet_v3\"", "\"kneukelboom_meet_v4\""),
-            ("\"kneukelboom_meet_v3\"", "\"kneukelboom_near_v3\""),
+            ("\"kneukelboom_meet_v2\"", "\"kneukelboom_meet_v3\""),
+            ("\"kneukelboom_meet_v2\"", "\"kneukelboom_near_v2\""),
             ("    pub visits: u32,", "    pub visits: u64,"),
             ("#[repr(C)]", ""),
         ],

@@ -18,7 +18,7 @@ fn large_thread_locals_take_no_room_from_a_call() {
     let near = || {
         LARGE.with(|large| black_box(large.as_ptr()));
         let points = shapes::flat_ring(0);
-        let table = shapes::table_without_end(&points, shapes::left);
+        let table = shapes::table_without_end(points.len() / 2, shapes::left);
         lent::near(&points, &table, 0, 16_000, 0, u32::MAX).answer()
     };
     let thread = thread::Builder::new().stack_size(256 << 10);

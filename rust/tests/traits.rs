@@ -3,7 +3,7 @@
 use std::collections::HashSet;
 use std::hash::Hash;
 
-use kneukelboom::{lent, Agreement, Answer, Line, Listed, Name, PlainSide, Points, Refusal, Side};
+use kneukelboom::{lent, Agreement, Answer, Line, Name, PlainSide, Points, Refusal, Side};
 
 const L: [(i64, i64); 3] = [(0, 0), (4, 3), (8, 0)];
 
@@ -100,9 +100,7 @@ fn everything_may_be_sent_and_shared() {
     sent_and_shared::<Points>();
     sent_and_shared::<lent::Reply>();
     sent_and_shared::<Box<Refusal>>();
-    sent_and_shared::<Listed>();
     compared::<(Line, Answer, Side, PlainSide, Agreement, Name, Refusal)>();
-    compared::<Listed>();
     fn an_error<T: std::error::Error + Send + Sync + 'static>() {}
     an_error::<Refusal>();
 }

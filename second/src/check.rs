@@ -1,39 +1,20 @@
-//! The checker of tables from other software: is every row good, does each hold its points, and is its
-//! longest the longest?
+//! The checker of tables from other software: is every row good, and does each hold its points?
 //!
 //! docs/RULES.md, section 2.9. The rules go from the root down, the left half before the right. That
 //! is the order of the table: here the rows are taken as they stand, and no half's row is looked up.
 
-use crate::geometry::{all_points, segments, squared_length, Name};
-use crate::tree::{check_line, check_table, rows, Refusal, SHEET};
+use crate::geometry::{all_points, Name};
+use crate::tree::{check_build, rows, Refusal, SHEET};
 use crate::walk::{Node, Tree, View};
 
 /// Accepts a line's table, whoever wrote it, or refuses by 1 to 6, 21 or 22. Nothing is written.
 pub fn check(name: Name, points: &[i64], table: &[i64]) -> Result<(), Refusal> {
-    check_line(name, points, SHEET)?;
-    check_table(name, points, table)?;
+    check_build(name, points, SHEET, table.len())?;
     let lent = Tree {
         name,
         points,
         table,
     };
-    check_rows(name, points, |node| {
-        let view = sound(points, node, lent.view(node))?;
-        let longest = segments(run(points, node)).map(squared_length).max();
-        if longest != Some(lent.longest(node).into()) {
-            return Err(22);
-        }
-        Ok(view)
-    })
-}
-
-/// Judges the rows of a line as they stand: each is looked at as the row of its node, and the first
-/// that is at fault is refused by the number of its fault.
-pub(crate) fn check_rows(
-    name: Name,
-    points: &[i64],
-    look: impl Fn(Node) -> Result<View, u8>,
-) -> Result<(), Refusal> {
     let segments = points.len() / 2 - 1;
     // Leaves stand in the order of their segments: the node of a row begins where the last leaf ended.
     let mut first = 0;
@@ -43,7 +24,7 @@ pub(crate) fn check_rows(
         let last = ends
             .pop()
             .expect("k segments have 2k - 1 rows, however they split");
-        let view = look(Node { row, first, last }).map_err(|number| Refusal {
+        let view = sound(lent, Node { row, first, last }).map_err(|number| Refusal {
             number,
             line: Some(name),
             place: row as u64,
@@ -57,18 +38,14 @@ pub(crate) fn check_rows(
     Ok(())
 }
 
-/// What eleven numbers tell of a node: 21 where they are not good, else 22 where they leave out a point.
-pub(crate) fn sound(points: &[i64], node: Node, view: Option<View>) -> Result<View, u8> {
-    let view = view.ok_or(21)?;
-    if all_points(run(points, node)).any(|p| view.clear_of(p)) {
+/// The row of a node: 21 where it is not good, else 22 where it leaves out a point of the node.
+fn sound(lent: Tree, node: Node) -> Result<View, u8> {
+    let view = lent.view(node).ok_or(21)?;
+    let mut run = all_points(&lent.points[2 * node.first..2 * node.last + 2]);
+    if run.any(|p| view.clear_of(p)) {
         return Err(22);
     }
     Ok(view)
-}
-
-/// The points of a node.
-fn run(points: &[i64], node: Node) -> &[i64] {
-    &points[2 * node.first..2 * node.last + 2]
 }
 
 #[cfg(test)]
@@ -78,24 +55,23 @@ mod tests {
         comb, damage, damage_at, foreign, foreign_table, sound_line, stray, Damage, Random,
     };
     use crate::geometry::Point;
-    use crate::tree::{build, LONGEST, ROW};
+    use crate::tree::{build, ROW};
     use crate::walk::{near, side, Answer, Outcome};
 
     const L: [i64; 6] = [0, 0, 4, 3, 8, 0];
     const SQUARE: [i64; 10] = [0, 0, 4, 0, 4, 4, 0, 4, 0, 0];
     /// A table of the square from other software: it splits at 1, then 2, then 3.
-    const V: [i64; 84] = [
-        0, 4, 1, 0, 4, 0, 4, 0, 4, 0, 4, 16, // points 0 to 4
-        0, 1, -1, 0, 0, 0, 16, 0, 4, 0, 0, 16, // points 0 to 1
-        1, 4, 2, -16, 0, 0, 16, 0, 4, 0, 4, 16, // points 1 to 4
-        1, 2, -1, 0, 0, 0, 16, 4, 4, 0, 4, 16, // points 1 to 2
-        2, 4, 3, -16, 0, 0, 32, 0, 4, 0, 4, 16, // points 2 to 4
-        2, 3, -1, 0, 0, 0, 16, 0, 4, 4, 4, 16, // points 2 to 3
-        3, 4, -1, 0, 0, 0, 16, 0, 0, 0, 4, 16, // points 3 to 4
+    const V: [i64; 77] = [
+        0, 4, 1, 0, 4, 0, 4, 0, 4, 0, 4, // points 0 to 4
+        0, 1, -1, 0, 0, 0, 16, 0, 4, 0, 0, // points 0 to 1
+        1, 4, 2, -16, 0, 0, 16, 0, 4, 0, 4, // points 1 to 4
+        1, 2, -1, 0, 0, 0, 16, 4, 4, 0, 4, // points 1 to 2
+        2, 4, 3, -16, 0, 0, 32, 0, 4, 0, 4, // points 2 to 4
+        2, 3, -1, 0, 0, 0, 16, 0, 4, 4, 4, // points 2 to 3
+        3, 4, -1, 0, 0, 0, 16, 0, 0, 0, 4, // points 3 to 4
     ];
     const COLUMNS: [&str; ROW] = [
         "first", "last", "split", "cmin", "cmax", "tmin", "tmax", "xmin", "xmax", "ymin", "ymax",
-        "longest",
     ];
 
     type Verdict = Result<(), Refusal>;
@@ -181,9 +157,9 @@ mod tests {
 
     #[test]
     fn figure_7_9_short_table_is_6_and_the_points_come_before_any_table() {
-        assert_eq!(check(Name::A, &L, &built(&L)[..35]), refused(6, 0));
+        assert_eq!(check(Name::A, &L, &built(&L)[..32]), refused(6, 0));
         let equal = [0, 0, 4, 3, 4, 3];
-        for table in [&[][..], &[0; 35], &[7; 36], &built(&L)] {
+        for table in [&[][..], &[0; 32], &[7; 33], &built(&L)] {
             assert_eq!(check(Name::A, &equal, table), refused(5, 1));
         }
     }
@@ -219,46 +195,6 @@ mod tests {
     fn figure_8_5_box_beyond_the_old_sheet_is_accepted_and_beyond_the_sheet_21() {
         assert_eq!(l_with("0.xmax=16384"), ACCEPTED);
         assert_eq!(l_with("0.xmax=1000001"), refused(21, 0));
-    }
-
-    #[test]
-    fn figure_11_10_longest_has_to_be_exactly_right_and_below_1_is_not_good() {
-        for (change, number) in [
-            ("1.longest=26", 22),
-            ("1.longest=24", 22),
-            ("1.longest=1", 22),
-            ("1.longest=9223372036854775807", 22),
-            ("1.longest=4294967321", 22),
-            ("1.longest=0", 21),
-            ("1.longest=-1", 21),
-            ("1.longest=-9223372036854775808", 21),
-        ] {
-            assert_eq!(l_with(change), refused(number, 1), "{change}");
-        }
-        for (changes, verdict) in [
-            ("0.longest=26 1.split=0", refused(22, 0)),
-            ("0.longest=26 0.cmax=-1", refused(21, 0)),
-            ("0.longest=0 0.cmax=23", refused(21, 0)),
-            ("1.split=0 2.longest=0", refused(21, 1)),
-        ] {
-            assert_eq!(l_with(changes), verdict, "{changes}");
-        }
-    }
-
-    #[test]
-    fn longest_is_that_of_the_points_and_not_of_the_halves_or_the_chord() {
-        // Segments of 1, 9, 1 and 9; the root's chord is 2 long.
-        let line = [0, 0, 1, 0, 1, 9, 2, 9, 2, 0];
-        for (changes, verdict) in [
-            ("", ACCEPTED),
-            ("0.longest=82 1.longest=82", refused(22, 0)),
-            ("0.longest=4", refused(22, 0)),
-            ("1.longest=1", refused(22, 1)),
-            ("4.longest=1 5.longest=1 6.longest=1", refused(22, 4)),
-        ] {
-            let table = changed(&built(&line), changes);
-            assert_eq!(check(Name::A, &line, &table), verdict, "{changes}");
-        }
     }
 
     #[test]
@@ -309,8 +245,7 @@ mod tests {
 
     /// Section 5.4, told of a range first to last.
     fn is_good(points: &[i64], row: [i128; ROW], (first, last): (i128, i128)) -> bool {
-        let [own_first, own_last, split, cmin, cmax, tmin, tmax, xmin, xmax, ymin, ymax, longest] =
-            row;
+        let [own_first, own_last, split, cmin, cmax, tmin, tmax, xmin, xmax, ymin, ymax] = row;
         let limit = 1_000_000;
         let (start, end) = (wide_point(points, first), wide_point(points, last));
         let off = |number: i128| number.abs() > limit;
@@ -324,7 +259,6 @@ mod tests {
             || (cmin > 0 || tmin > 0 || cmax < 0 || tmax < 0)
             || (xmin > xmax || ymin > ymax)
             || [xmin, xmax, ymin, ymax].into_iter().any(off)
-            || longest < 1
             || [start.0, start.1, end.0, end.1].into_iter().any(off)
             || (last - first == 1 && start == end);
         !bad
@@ -332,7 +266,7 @@ mod tests {
 
     /// Do strip and box hold all points from first to last?
     fn holds_run(points: &[i64], row: [i128; ROW], (first, last): (i128, i128)) -> bool {
-        let [_, _, _, cmin, cmax, tmin, tmax, xmin, xmax, ymin, ymax, _] = row;
+        let [_, _, _, cmin, cmax, tmin, tmax, xmin, xmax, ymin, ymax] = row;
         let (start, end) = (wide_point(points, first), wide_point(points, last));
         let (dx, dy) = match (end.0 - start.0, end.1 - start.1) {
             (0, 0) => (1, 0),
@@ -347,29 +281,6 @@ mod tests {
                 && (xmin..=xmax).contains(&x)
                 && (ymin..=ymax).contains(&y)
         })
-    }
-
-    /// Is no segment from first to last longer than the row says, and one just so long?
-    fn tells_longest(points: &[i64], row: [i128; ROW], (first, last): (i128, i128)) -> bool {
-        let squares: Vec<i128> = (first..last)
-            .map(|index| {
-                let ((x, y), (to_x, to_y)) =
-                    (wide_point(points, index), wide_point(points, index + 1));
-                (to_x - x) * (to_x - x) + (to_y - y) * (to_y - y)
-            })
-            .collect();
-        squares.iter().all(|&square| square <= row[LONGEST]) && squares.contains(&row[LONGEST])
-    }
-
-    /// The fault of a row in its range.
-    fn fault(points: &[i64], row: [i128; ROW], range: (i128, i128)) -> Option<u8> {
-        if !is_good(points, row, range) {
-            Some(21)
-        } else if !holds_run(points, row, range) || !tells_longest(points, row, range) {
-            Some(22)
-        } else {
-            None
-        }
     }
 
     /// The range that each row gets from its parent; none below a row that is not good.
@@ -394,11 +305,17 @@ mod tests {
     /// Every row at fault of those that have a range, with all of them asked.
     fn faults(points: &[i64], table: &[i64]) -> Vec<(usize, u8)> {
         let ranges = handed_down(points, table);
-        let at_fault = |row: usize| {
-            let number = fault(points, wide_row(table, row), ranges[row]?)?;
-            Some((row, number))
+        let fault = |row: usize| {
+            let (numbers, range) = (wide_row(table, row), ranges[row]?);
+            if !is_good(points, numbers, range) {
+                Some((row, 21))
+            } else if !holds_run(points, numbers, range) {
+                Some((row, 22))
+            } else {
+                None
+            }
         };
-        let faults: Vec<(usize, u8)> = (0..ranges.len()).filter_map(at_fault).collect();
+        let faults: Vec<(usize, u8)> = (0..ranges.len()).filter_map(fault).collect();
         let whole = ranges.iter().all(Option::is_some);
         assert!(
             whole || !faults.is_empty(),
@@ -410,8 +327,11 @@ mod tests {
     /// The same by recursion from a row, the left half before the right.
     fn first_fault(points: &[i64], table: &[i64], row: usize, range: (i128, i128)) -> Verdict {
         let numbers = wide_row(table, row);
-        if let Some(number) = fault(points, numbers, range) {
-            return refused(number, row);
+        if !is_good(points, numbers, range) {
+            return refused(21, row);
+        }
+        if !holds_run(points, numbers, range) {
+            return refused(22, row);
         }
         let ((first, last), split) = (range, numbers[2]);
         if last - first == 1 {
@@ -563,9 +483,6 @@ mod tests {
             damage_at(&mut table, last, 6, Damage::Least);
             assert_eq!(check(Name::A, &points, &table), refused(21, last));
             assert_eq!(faults(&points, &table), [(last, 21)]);
-            let mut table = built(&points);
-            damage_at(&mut table, last, LONGEST, Damage::OneMore);
-            assert_eq!(check(Name::A, &points, &table), refused(22, last));
         }
     }
 
@@ -579,10 +496,10 @@ mod tests {
         assert_eq!(check(Name::A, &[0; 2 * 4_098], &[]), refused(3, 0));
         assert_eq!(check(Name::A, &all_wrong, &[]), refused(4, 2));
         assert_eq!(check(Name::A, &all_wrong[..4], &[]), refused(5, 0));
-        for length in 0..36 {
+        for length in 0..33 {
             assert_eq!(check(Name::A, &L, &vec![far; length]), refused(6, 0));
         }
-        for length in [36, 37, 47, 48, 99] {
+        for length in [33, 34, 43, 44, 99] {
             assert_eq!(check(Name::A, &L, &vec![far; length]), refused(21, 0));
         }
     }
@@ -617,11 +534,9 @@ mod tests {
                 place: 0,
             })
         };
-        assert_eq!(check(Name::B, &L, &[0; 35]), of_b(6));
-        assert_eq!(check(Name::B, &L, &[7; 36]), of_b(21));
-        for change in ["0.cmax=23", "0.longest=24"] {
-            let table = changed(&built(&L), change);
-            assert_eq!(check(Name::B, &L, &table), of_b(22));
-        }
+        assert_eq!(check(Name::B, &L, &[0; 32]), of_b(6));
+        assert_eq!(check(Name::B, &L, &[7; 33]), of_b(21));
+        let table = changed(&built(&L), "0.cmax=23");
+        assert_eq!(check(Name::B, &L, &table), of_b(22));
     }
 }

@@ -1,4 +1,4 @@
-//! Question files from a fixed seed; and lines, points, distances, lengths and foreign tables to lend.
+//! Question files from a fixed seed; and lines, points, distances and foreign tables to lend.
 //!
 //! A file is a row of scenes: line A of one shape, line B made from it or of another shape, then
 //! NEAR, IN, MEET and AGREE, each asked with the exact number of visits as its allowance, one less,
@@ -9,12 +9,10 @@
 //! Refusals that come through the program: 2, 4, 5, 7, 8, 9, 12 and 13. Those that cannot:
 //! 1 (the store hands over whole points), 3 (a line of 258 points is 13 long before), 6 (the
 //! program's tables have room for 257 points), 10 (it reads only tables it has just built), 8 in
-//! AGREE (a point off the sheet is 4 when its line is built), 21 and 22 (no record asks the checker), and
-//! 24 (no record asks LONGER).
+//! AGREE (a point off the sheet is 4 when its line is built), and 21 and 22 (no record asks the checker).
 
 mod asked;
 mod damage;
-mod lengths;
 mod random;
 mod shapes;
 mod tight;
@@ -29,9 +27,8 @@ use shapes::{companion, shaped, SHAPES};
 
 pub use asked::{asked_point, distance};
 pub use damage::{damage, damage_at, foreign, foreign_table, loosen, stray, Damage};
-pub use lengths::{asked_length, list_rooms};
 pub use random::Random;
-pub use shapes::{comb, sound_line, stretched_line};
+pub use shapes::{comb, sound_line};
 pub use tight::{tight, Tight};
 
 /// Writes a question file with `count` questions. Files of odd seeds lack their last line feed.

@@ -103,12 +103,6 @@ pub fn share_point(p: Segment, q: Segment) -> bool {
         && !one_sided(q, p)
 }
 
-/// The square of a segment's length.
-pub fn squared_length(segment: Segment) -> i128 {
-    let u = step(segment.from, segment.to);
-    dot(u, u)
-}
-
 pub fn on_segment(segment: Segment, z: Point) -> bool {
     let u = step(segment.from, segment.to);
     let from_start = step(segment.from, z);
@@ -161,16 +155,6 @@ pub fn plain_astray(a: &[i64], b: &[i64], d: i64) -> Option<(Name, usize)> {
         Some(index) => Some((Name::A, index)),
         None => first_far(b, a).map(|index| (Name::B, index)),
     }
-}
-
-/// LONGER over all segments: the numbers of those that are longer than `length`, rising.
-pub fn plain_longer(points: &[i64], length: i64) -> Vec<i64> {
-    let square = i128::from(length) * i128::from(length);
-    (0..)
-        .zip(segments(points))
-        .filter(|&(_, segment)| squared_length(segment) > square)
-        .map(|(number, _)| number)
-        .collect()
 }
 
 #[cfg(test)]
@@ -359,34 +343,5 @@ mod tests {
         assert_eq!(plain_astray(&long, &stub, 2), Some((Name::A, 2)));
         assert_eq!(plain_astray(&stub, &long, 2), Some((Name::B, 2)));
         assert_eq!(plain_astray(&stub, &long, 12), None);
-    }
-
-    #[test]
-    fn segment_is_longer_only_strictly_and_each_is_listed_once() {
-        // Lengths 5, 5, 13, 1 and the root of 50, which is a little above 7.
-        let line = [0, 0, 3, 4, 6, 0, 1, 12, 1, 13, 6, 18];
-        for (length, expected) in [
-            (0, &[0, 1, 2, 3, 4][..]),
-            (1, &[0, 1, 2, 4]),
-            (4, &[0, 1, 2, 4]),
-            (5, &[2, 4]),
-            (7, &[2, 4]),
-            (8, &[2]),
-            (12, &[2]),
-            (13, &[]),
-            (2_000_000, &[]),
-        ] {
-            assert_eq!(plain_longer(&line, length), expected, "{length}");
-        }
-    }
-
-    #[test]
-    fn longest_segment_of_the_sheet_is_its_diagonal() {
-        let far = 1_000_000;
-        let diagonal = seg(-far, far, far, -far);
-        assert_eq!(squared_length(diagonal), 8_000_000_000_000);
-        assert_eq!(plain_longer(&[-far, far, far, -far], 2_000_000), [0]);
-        assert_eq!(plain_longer(&[-far, far, far, far], 2_000_000), []);
-        assert_eq!(plain_longer(&[-far, far, far, far], 1_999_999), [0]);
     }
 }

@@ -2,10 +2,8 @@
 //! The binary answers question files; tests elsewhere hold the proved library against these functions.
 
 pub mod check;
-pub mod complete;
 pub mod generate;
 pub mod geometry;
-pub mod longer;
 pub mod old;
 pub mod program;
 pub mod tree;

@@ -1,11 +1,10 @@
-//! Tables of before, whose rows have eleven numbers: how they were built, and how 32-bit numbers become
-//! 64-bit ones. What completes them is in complete.rs.
+//! Tables of 32-bit numbers, from before the sheet had 125 km, and how they become 64-bit ones.
 //!
 //! docs/RULES.md, section 2.8. On the old sheet |c| and |t| are at most 2 * 32,766^2 < 2^31: what the
 //! old rules let a builder write fits 32 bits.
 
 use crate::geometry::Name;
-use crate::tree::{check_line, check_room, grow, Refusal, OLD_ROW, OLD_SHEET, ROW, SHEET};
+use crate::tree::{grown, Refusal, OLD_SHEET};
 
 /// Puts each number as it is at the front of the lent list, or refuses and writes nothing.
 pub fn widen(old: &[i32], new: &mut [i64]) -> Result<(), Refusal> {
@@ -22,7 +21,7 @@ pub fn widen(old: &[i32], new: &mut [i64]) -> Result<(), Refusal> {
     Ok(())
 }
 
-/// What the rules of 32-bit numbers let a builder do: the tree of a line of the old sheet.
+/// What the old rules let a builder do: the tree of a line of the old sheet, as 32-bit numbers.
 pub fn build_old(name: Name, points: &[i32], table: &mut [i32]) -> Result<(), Refusal> {
     let points: Vec<i64> = points.iter().map(|&number| number.into()).collect();
     let grown = grown(name, &points, OLD_SHEET, table.len())?;
@@ -32,32 +31,11 @@ pub fn build_old(name: Name, points: &[i32], table: &mut [i32]) -> Result<(), Re
     Ok(())
 }
 
-/// What the rules of eleven 64-bit numbers let a builder do: the tree of a line of the sheet of now.
-pub fn build_eleven(name: Name, points: &[i64], table: &mut [i64]) -> Result<(), Refusal> {
-    let grown = grown(name, points, SHEET, table.len())?;
-    table[..grown.len()].copy_from_slice(&grown);
-    Ok(())
-}
-
-/// A table as the builders of before wrote it: its whole rows, each without the longest.
-pub fn eleven_numbers(table: &[i64]) -> Vec<i64> {
-    let rows = table.chunks_exact(ROW);
-    rows.flat_map(|row| &row[..OLD_ROW]).copied().collect()
-}
-
-/// The eleven numbers of each row, or why a build of before into that room was refused.
-fn grown(name: Name, points: &[i64], limit: i64, room: usize) -> Result<Vec<i64>, Refusal> {
-    check_line(name, points, limit)?;
-    check_room(name, points, OLD_ROW, room)?;
-    let rows = grow(points, |_, _, farthest| farthest);
-    Ok(eleven_numbers(&rows))
-}
-
 #[cfg(test)]
 mod tests {
     use super::*;
-    use crate::generate::{sound_line, Random};
-    use crate::tree::{build, rows};
+    use crate::generate::Random;
+    use crate::tree::{build, rows, ROW};
 
     const L: [i32; 6] = [0, 0, 4, 3, 8, 0];
     const TABLE_OF_L: [i32; 33] = [
@@ -85,8 +63,8 @@ mod tests {
         new
     }
 
-    fn old_room(points: &[i32]) -> usize {
-        OLD_ROW * rows(points.len() / 2 - 1)
+    fn room(points: &[i32]) -> usize {
+        ROW * rows(points.len() / 2 - 1)
     }
 
     /// A line of `count` points; a small reach brings ties, closed runs and equal neighbours.
@@ -98,23 +76,19 @@ mod tests {
 
     #[test]
     fn figure_8_7_table_of_l_widened_into_35_numbers_leaves_the_last_two() {
-        let mut new = [7; 35];
+        let mut new = [5; 35];
         assert_eq!(widen(&TABLE_OF_L, &mut new), Ok(()));
-        let mut built = [7; 35];
-        let points = widened(&L);
-        assert_eq!(build_eleven(Name::A, &points, &mut built), Ok(()));
+        let mut built = [5; 35];
+        assert_eq!(build(Name::A, &widened(&L), &mut built), Ok(()));
         assert_eq!(new, built);
-        assert_eq!(new[33..], [7, 7]);
-        let mut twelve = [0; 36];
-        assert_eq!(build(Name::A, &points, &mut twelve), Ok(()));
-        assert_eq!(new[..33], eleven_numbers(&twelve));
+        assert_eq!(new[33..], [5, 5]);
     }
 
     #[test]
     fn widening_into_too_short_a_list_is_refused_6_and_writes_nothing() {
-        let mut new = [7; 32];
+        let mut new = [5; 32];
         assert_eq!(widen(&TABLE_OF_L, &mut new), Err(TOO_SHORT));
-        assert_eq!(new, [7; 32]);
+        assert_eq!(new, [5; 32]);
         assert_eq!(widen(&[1], &mut []), Err(TOO_SHORT));
     }
 
@@ -166,56 +140,18 @@ mod tests {
     }
 
     #[test]
-    fn table_built_by_the_old_rules_and_widened_is_the_one_of_eleven_numbers() {
+    fn table_built_by_the_old_rules_and_widened_is_the_one_that_is_built_now() {
         let mut random = Random(8);
         for round in 0..4_000 {
             let count = 2 + round % 11;
             let reach = random.pick(&[2, 9, 500, OLD_SHEET]);
             let points = line(&mut random, count, reach);
-            let mut old = vec![0; old_room(&points)];
-            let mut new = vec![0; old_room(&points)];
+            let mut old = vec![0; room(&points)];
+            let mut new = vec![0; room(&points)];
             let by_old_rules = build_old(Name::A, &points, &mut old);
-            let by_new_rules = build_eleven(Name::A, &widened(&points), &mut new);
+            let by_new_rules = build(Name::A, &widened(&points), &mut new);
             assert_eq!(by_old_rules, by_new_rules, "{points:?}");
             assert_eq!(widened(&old), new, "{points:?}");
         }
-    }
-
-    #[test]
-    fn builders_of_before_wrote_what_is_built_now_without_its_longests() {
-        let mut random = Random(9);
-        for _ in 0..1_000 {
-            let points = sound_line(&mut random);
-            let rows = rows(points.len() / 2 - 1);
-            let mut eleven = vec![77; OLD_ROW * rows + 2];
-            let mut twelve = vec![77; ROW * rows + 2];
-            assert_eq!(build_eleven(Name::A, &points, &mut eleven), Ok(()));
-            assert_eq!(build(Name::A, &points, &mut twelve), Ok(()));
-            assert_eq!(eleven[..OLD_ROW * rows], eleven_numbers(&twelve));
-            assert_eq!(eleven[OLD_ROW * rows..], [77, 77]);
-        }
-    }
-
-    #[test]
-    fn build_of_eleven_numbers_takes_the_sheet_of_now_and_33_numbers_for_l() {
-        let points = widened(&L);
-        assert_eq!(build_eleven(Name::A, &points, &mut [0; 33]), Ok(()));
-        let mut table = [77; 32];
-        let short = build_eleven(Name::A, &points, &mut table);
-        assert_eq!(short, refusal(6, 0));
-        let far = [0, 0, 1_000_000, -1_000_000];
-        assert_eq!(build_eleven(Name::A, &far, &mut [0; 11]), Ok(()));
-        let off = build_eleven(Name::A, &[0, 0, 1_000_001, 0], &mut table);
-        assert_eq!(off, refusal(4, 1));
-        let equal = build_eleven(Name::A, &[0, 0, 0, 0], &mut table);
-        assert_eq!(equal, refusal(5, 0));
-        assert_eq!(table, [77; 32]);
-    }
-
-    #[test]
-    fn eleven_numbers_are_those_of_whole_rows() {
-        let table: Vec<i64> = (0..30).collect();
-        let expected: Vec<i64> = (0..11).chain(12..23).collect();
-        assert_eq!(eleven_numbers(&table), expected);
     }
 }

@@ -1,4 +1,4 @@
-//! The four questions with an allowance, by the written walk; the fifth is in longer.rs.
+//! The four questions by the written walk, with visits counted against an allowance.
 //!
 //! docs/RULES.md, section 4. Each walk is a loop over a stack of nodes that are due, the
 //! next one on top; taking a node from the stack is what makes a visit due. A row may hold any
@@ -10,8 +10,7 @@ use crate::geometry::{
     all_points, crosses, on_segment, point, share_point, within, Name, Point, Segment,
 };
 use crate::tree::{
-    check_points, check_table, on_sheet, Extents, Frame, Refusal, Span, FARTHEST, LONGEST, OLD_ROW,
-    ROW, SHEET,
+    check_points, check_table, on_sheet, Extents, Frame, Refusal, Span, FARTHEST, ROW, SHEET,
 };
 
 /// What a question is answered with.
@@ -111,8 +110,8 @@ fn yes_or_no(found: bool) -> Answer {
     }
 }
 
-/// Refusal 7, of LONGER's length too.
-pub(crate) fn check_distance(d: i64) -> Result<(), Refusal> {
+/// Refusal 7.
+fn check_distance(d: i64) -> Result<(), Refusal> {
     if (0..=FARTHEST).contains(&d) {
         Ok(())
     } else {
@@ -212,7 +211,7 @@ impl Node {
     }
 }
 
-/// The eleven numbers of a good row before its longest, with the points they stand on.
+/// A good row with the points it stands on.
 pub(crate) struct View {
     /// First point to last: the chord, and for a leaf the segment itself.
     chord: Segment,
@@ -223,28 +222,6 @@ pub(crate) struct View {
 }
 
 impl View {
-    /// The eleven numbers of a node's row, where they are good.
-    pub(crate) fn of(row: &[i64], points: &[i64], node: Node) -> Option<View> {
-        let chord = Segment {
-            from: point(points, node.first),
-            to: point(points, node.last),
-        };
-        if !good(row, node, chord) {
-            return None;
-        }
-        Some(View {
-            chord,
-            frame: Frame::of(chord.from, chord.to),
-            extents: extents(row),
-            split: (node.segments() > 1).then_some(row[2] as usize),
-        })
-    }
-
-    /// The squared length of a leaf's segment.
-    pub(crate) fn squared_length(&self) -> i64 {
-        self.frame.square()
-    }
-
     /// Does the strip alone keep `z` farther than `d` from all of the node?
     fn far_from(&self, z: Point, d: i64) -> bool {
         let gc = i128::from(self.extents.c.shortfall(self.frame.c(z.x, z.y)));
@@ -282,7 +259,7 @@ impl View {
 
 impl Tree<'_> {
     /// Refusals 1, 2, 3 and 6.
-    pub(crate) fn check(&self) -> Result<(), Refusal> {
+    fn check(&self) -> Result<(), Refusal> {
         check_points(self.name, self.points)?;
         check_table(self.name, self.points, self.table)
     }
@@ -308,32 +285,31 @@ impl Tree<'_> {
         }
     }
 
-    /// Reads the row of a node at a visit, or refuses it as bad.
+    /// Reads the row of a node at a visit, or refuses it as bad (refusal 10).
     fn read(&self, node: Node) -> Result<View, Stop> {
-        self.view(node).ok_or(Stop::Refused(self.bad_row(node)))
-    }
-
-    /// Refusal 10.
-    pub(crate) fn bad_row(&self, node: Node) -> Refusal {
-        Refusal {
+        self.view(node).ok_or(Stop::Refused(Refusal {
             number: 10,
             line: Some(self.name),
             place: node.row as u64,
-        }
+        }))
     }
 
     /// The row of a node, where it is good.
     pub(crate) fn view(&self, node: Node) -> Option<View> {
-        // Neighbours differ, so that the longest of a run is at least 1.
-        if self.longest(node) < 1 {
+        let row = &self.table[ROW * node.row..][..ROW];
+        let chord = Segment {
+            from: point(self.points, node.first),
+            to: point(self.points, node.last),
+        };
+        if !good(row, node, chord) {
             return None;
         }
-        View::of(&self.table[ROW * node.row..][..OLD_ROW], self.points, node)
-    }
-
-    /// What the row of a node says to be the greatest squared length of its segments.
-    pub(crate) fn longest(&self, node: Node) -> i64 {
-        self.table[ROW * node.row + LONGEST]
+        Some(View {
+            chord,
+            frame: Frame::of(chord.from, chord.to),
+            extents: extents(row),
+            split: (node.segments() > 1).then_some(row[2] as usize),
+        })
     }
 }
 
@@ -351,7 +327,7 @@ fn extents(row: &[i64]) -> Extents {
     }
 }
 
-/// Are the eleven numbers good for that node, whose first and last points are those of the chord?
+/// Is the row good for that node, whose first and last points are those of the chord?
 fn good(row: &[i64], node: Node, chord: Segment) -> bool {
     // Indices are at most 4,096, so as i64 they compare with the row's numbers exactly.
     let (first, last, split) = (node.first as i64, node.last as i64, row[2]);
@@ -838,7 +814,7 @@ mod tests {
         let (odd, one) = ([0; 3], [0; 2]);
         let first = |a, b| agree(a, b, -1, 0);
         assert_eq!(
-            first(tree(Name::A, &L, &[0; 35]), tree(Name::B, &odd, &[])),
+            first(tree(Name::A, &L, &[0; 32]), tree(Name::B, &odd, &[])),
             refused(6, Some(Name::A), 0, 0)
         );
         assert_eq!(
@@ -877,7 +853,7 @@ mod tests {
 
     #[test]
     fn bad_row_is_refused_10_and_its_visit_counts() {
-        // (place in the table of L, bad value); rows 0, 1 and 2 start at 0, 12 and 24.
+        // (place in the table of L, bad value); rows 0, 1 and 2 start at 0, 11 and 22.
         let bad = [
             (0, 1),
             (1, 3),
@@ -893,17 +869,14 @@ mod tests {
             (8, 1_000_001),
             (9, 4),
             (10, 1_000_001),
-            (11, 0),
-            (12, 1),
-            (13, 2),
+            (11, 1),
+            (12, 2),
+            (13, 1),
             (14, 1),
-            (15, 1),
-            (18, -1),
-            (23, -1),
-            (24, 0),
-            (25, 1),
-            (26, 2),
-            (35, i64::MIN),
+            (17, -1),
+            (22, 0),
+            (23, 1),
+            (24, 2),
         ];
         for (place, value) in bad {
             l_is_refused_10(place, value);
@@ -913,50 +886,19 @@ mod tests {
     #[test]
     fn row_that_is_good_in_its_low_32_bits_alone_is_refused_10() {
         let table = built(Name::A, &L).table;
-        for place in [0, 1, 2, 7, 8, 9, 10, 12, 13, 14, 24, 25, 26] {
+        for place in [0, 1, 2, 7, 8, 9, 10, 11, 12, 13, 22, 23, 24] {
             l_is_refused_10(place, table[place] + (1 << 32));
             l_is_refused_10(place, table[place].wrapping_add(i64::MIN));
         }
-        // Of a strip and a longest it is the sign that counts.
+        // Of a strip it is the sign that counts.
         for place in [3, 5] {
             l_is_refused_10(place, 1 << 32);
             l_is_refused_10(place, i64::MAX);
         }
-        for place in [4, 6, 11, 23, 35] {
+        for place in [4, 6] {
             l_is_refused_10(place, -(1 << 32));
             l_is_refused_10(place, i64::MIN);
         }
-    }
-
-    #[test]
-    fn longest_of_1_or_more_is_good_whatever_it_says_and_changes_no_answer() {
-        for longest in [1, 24, 26, 1 << 32, i64::MAX] {
-            for row in 0..3 {
-                let mut a = built(Name::A, &L);
-                a.table[ROW * row + LONGEST] = longest;
-                assert_eq!(near(a.tree(), at(4, 0), 2, MOST), says(Answer::No, 3));
-                assert_eq!(near(a.tree(), at(4, 5), 2, MOST), says(Answer::Yes, 2));
-            }
-        }
-    }
-
-    #[test]
-    fn figure_11_11_longest_below_1_is_refused_10_by_every_question_that_comes_to_it() {
-        let mut a = built(Name::A, &L);
-        a.table[ROW + LONGEST] = 0;
-        let bad = refused(10, Some(Name::A), 1, 2);
-        assert_eq!(near(a.tree(), at(4, 5), 2, MOST), bad);
-        let b = built(Name::B, &[4, 0, 4, 3]);
-        assert_eq!(meet(a.tree(), b.tree(), MOST), bad);
-        // A's three points come before it, with a visit each.
-        let later = refused(10, Some(Name::A), 1, 5);
-        assert_eq!(agree(a.tree(), b.tree(), 5, MOST), later);
-        let mut ring = built(Name::A, &SQUARE);
-        ring.table[LONGEST] = 0;
-        assert_eq!(
-            side(ring.tree(), at(2, 2), MOST),
-            refused(10, Some(Name::A), 0, 1)
-        );
     }
 
     /// The walk visits all rows of L, and the one with the bad number is its last.

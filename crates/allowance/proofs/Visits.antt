@@ -20,38 +20,30 @@ use Rattle.rules.specs.Rows.{good}
 use Rattle.rules.specs.Walk.{Visit, halve}
 use Rattle.rules.specs.Questions.{left_of, right_of, leaf, size, split_in, read_row, start_of, end_of, heading_of}
 use Rattle.rules.specs.Questions.{far_from, near_visit, meet_visit, clear_of, count, in_visit}
-use Rattle.visits.specs.Nodes.{Inner, RowGood}
-use Rattle.visits.specs.Reached.{left_half, right_half}
+use Rattle.visits.specs.Nodes.{Inner}
 use Rattle.visits.proofs.Nodes.{good-inner, larger-opens, other-opens}
 use Rattle.visits.proofs.Visits.{node_visit, with_a, with_b, pair_apart, pair_shares}
 use Rattle.allowance.proofs.Walks.{Shares, refuses, finishes, passes, halves, Halving}
 
 module _ {S N : Type 0} {Fine : ℕ → N → Type 0} {parts : N → ℕ} {f : ℕ} {n : N} where
   -- a visit that goes by a test shares where both ways do
-  pub shares-cond : {x y : Visit S N} (b : Bool) → (T b → Shares Fine parts f n x)
-      → (T (not b) → Shares Fine parts f n y) → Shares Fine parts f n (cond b x y)
+  shares-cond : {x y : Visit S N} (b : Bool) → (T b → Shares Fine parts f n x) → (T (not b) → Shares Fine parts f n y)
+      → Shares Fine parts f n (cond b x y)
   shares-cond b p q = cond_ind b _ _ (Shares Fine parts f n) p q
 
   -- a bad row is refused
-  pub shares-row : {x : Visit S N} (l : Line) (ps t : List ℤ) (m : Node)
+  shares-row : {x : Visit S N} (l : Line) (ps t : List ℤ) (m : Node)
       → (T (good ps (row_at t m.row) m.first m.last) → Shares Fine parts f n x)
       → Shares Fine parts f n (read_row l ps t m (λ r. x))
   shares-row l ps t m h = shares-cond (good ps (row_at t m.row) m.first m.last) h (λ _. refuses)
 
 -- a node of at least one segment, and of at most this many
-abbrev pub Spans : ℕ → Node → Type 0
+abbrev Spans : ℕ → Node → Type 0
 Spans f n = (n.first < n.last) × (n.last ≤ f + n.first)
 
 -- a split that halves a node is an inner point
 abbrev Halves : Node → ℕ → Type 0
 Halves n s = Inner n.first s n.last
-
--- a node that is no leaf, and whose row is good, has its segments shared by its halves
-pub node-shares : {S : Type 0} (ps t : List ℤ) (f : ℕ) (n : Node) → Spans (suc f) n → RowGood ps t n → T (not (leaf n))
-    → Shares {S = S} Spans size f n (halve (left_half t n) (right_half t n))
-node-shares ps t f n k g e =
-    let b : Halves n (split_in (row_at t n.row)) = good-inner ps t n g (nleb→lt _ _ e) in
-    halves (left_half t n) (right_half t n) (omega arith) (omega arith) (omega arith)
 
 -- NEAR's and IN's visits halve a node's segments
 node-halves : {S : Type 0} (l : Line) (ps t : List ℤ) (dismissed exact : Node → Bool) (h : Node → S → S)
@@ -62,7 +54,10 @@ node-halves l ps t dismissed exact h = record {
   shares = λ f n k.
       shares-row l ps t n λ g.
       shares-cond (dismissed n) (λ _. passes) λ _.
-      shares-cond (leaf n) (λ _. shares-cond (exact n) (λ _. finishes) (λ _. passes)) (node-shares ps t f n k g);
+      shares-cond (leaf n) (λ _. shares-cond (exact n) (λ _. finishes) (λ _. passes)) λ e.
+      let s = split_in (row_at t n.row) in
+      let b : Halves n s = good-inner ps t n g (nleb→lt _ _ e) in
+      halves (left_of n s) (right_of n s) (omega arith) (omega arith) (omega arith);
 }
 
 pub near-halves : (l : Line) (ps t : List ℤ) (z : Point) (D : ℤ) → Halving Spans size (near_visit l ps t z D)

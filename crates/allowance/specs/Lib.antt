@@ -1,4 +1,3 @@
--- What it means that the visits decide a question, and how many are enough; and what LONGER's walk comes to.
+-- What it means that the visits decide a question, and how many are enough.
 pub mod Decides
 pub mod Enough
-pub mod Longer

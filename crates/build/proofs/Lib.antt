@@ -2,4 +2,3 @@
 pub mod Numbers
 pub mod Node
 pub mod Parts
-pub mod Built

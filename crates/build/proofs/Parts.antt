@@ -59,10 +59,3 @@ module _ (first s last : ℕ) (left : first < s) (right : s < last) where
 
   pub left-room : (n : ℕ) → 2 * width * last ≤ n + 2 * width * first + width → width * (2 * (s - first)) ≤ n
   left-room n h = omega arith
-
-  -- both have fewer segments
-  pub left-fewer : (n : ℕ) → last - first ≡ n → s - first < n
-  left-fewer n h = omega arith
-
-  pub right-fewer : (n : ℕ) → last - first ≡ n → last - s < n
-  right-fewer n h = omega arith

@@ -21,14 +21,14 @@ use Rattle.rules.specs.Tree.{row_at, row_count}
 use Rattle.rules.specs.Rows.{good}
 use Rattle.rules.specs.Reply.{or_else}
 use Rattle.rules.specs.Questions.{root, leaf}
-use Rattle.rules.specs.Build.{row_right, build_refusal}
+use Rattle.rules.specs.Build.{row_holds, build_refusal}
 use Rattle.rules.specs.Check.{read_from, fault, row_fault, fault_from, table_fault, check_refusal}
 use Rattle.visits.specs.Nodes.{RowGood}
 use Rattle.visits.specs.Reached.{left_half, right_half, Reached, at-root}
 use Rattle.visits.proofs.Nodes.{good-inner, root-fits, fits-row}
 use Rattle.table_truth.proofs.Refusals.{buildable, some-segment}
 use Rattle.table_truth.proofs.Rows.{≤-or->}
-use Rattle.checked.specs.Faults.{RowRight, Fault, not_good, not_right, FineRow, EveryRowFine, LowestFault}
+use Rattle.checked.specs.Faults.{RowHolds, Fault, not_good, leaves-out, FineRow, EveryRowFine, LowestFault}
 use Rattle.checked.proofs.Under.{Under, here, on-left, on-right, More, under-reached, reached-under, under-from}
 use Rattle.checked.proofs.Under.{under-fits, left-before, under-once, under-every}
 use Rattle.checked.proofs.Sound.{both-none}
@@ -38,18 +38,18 @@ some-once e = cc
 
 module _ (ps t : List ℤ) where
   abbrev Fine : Node → Type 0
-  Fine n = RowGood ps t n × RowRight ps t n
+  Fine n = RowGood ps t n × RowHolds ps t n
 
   -- a row at fault is not fine, and is at fault for one number
   fault-not-fine : {n : Node} {k : ℕ} → Fault ps t n k → ¬ Fine n
   fault-not-fine (not_good b) h = b h.0
-  fault-not-fine (not_right g b) h = b h.1
+  fault-not-fine (leaves-out g b) h = b h.1
 
   fault-once : {n : Node} {j k : ℕ} → Fault ps t n j → Fault ps t n k → j ≡ k
   fault-once (not_good b) (not_good c) = refl
-  fault-once (not_good b) (not_right g c) = absurd (b g)
-  fault-once (not_right g b) (not_good c) = absurd (c g)
-  fault-once (not_right g b) (not_right h c) = refl
+  fault-once (not_good b) (leaves-out g c) = absurd (b g)
+  fault-once (leaves-out g b) (not_good c) = absurd (c g)
+  fault-once (leaves-out g b) (leaves-out h c) = refl
 
   -- ---------------- what the checker finds under a node
 
@@ -76,8 +76,8 @@ module _ (ps t : List ℤ) where
   own-found n =
       cond_ind (good ps (row_at t n.row) n.first n.last) _ _ (FindsOwn n)
       (λ g.
-      cond_ind (row_right ps (row_at t n.row) n.first n.last) none (fault 22 n) (FindsOwn n) (λ h. (g, h))
-      (λ b. (22, not_right g (T_not (row_right ps (row_at t n.row) n.first n.last) b), refl)))
+      cond_ind (row_holds ps (row_at t n.row) n.first n.last) none (fault 22 n) (FindsOwn n) (λ h. (g, h))
+      (λ b. (22, leaves-out g (T_not (row_holds ps (row_at t n.row) n.first n.last) b), refl)))
       (λ b. (21, not_good (T_not (good ps (row_at t n.row) n.first n.last) b), refl))
 
   own_first : (n : Node) (o p : Option Refusal) → FindsOwn n o → (Fine n → Finds n p) → Finds n (or_else o p)
@@ -175,14 +175,14 @@ module _ (ps t : List ℤ) where
           reached = under-reached ps t at-root x.1;
           here = x.2;
           row-good = y.0;
-          row-right = y.1;
+          row-holds = y.1;
         }
 
     -- a fine row is the row of no node at fault
     fine-not-fault : {n : Node} {k : ℕ} → Reached ps t n → Fault ps t n k → ¬ FineRow ps t n.row
     fine-not-fault h b r =
         let e = same-node r.reached h r.here in
-        fault-not-fine b (subst Fine e (r.row-good, r.row-right))
+        fault-not-fine b (subst Fine e (r.row-good, r.row-holds))
 
     -- a node under the root has its row among the 2n - 1
     row_in : {m : Node} → Under ps t (root ps) m → m.row < row_count (segments_of ps)

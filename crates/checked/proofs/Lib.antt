@@ -2,5 +2,4 @@
 pub mod Under
 pub mod Sound
 pub mod Faults
-pub mod Alike
 pub mod Rest

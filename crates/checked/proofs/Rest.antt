@@ -1,29 +1,33 @@
 -- Numbers past the 2n - 1 rows are not looked at.
 use mathlib.Core.Path.{◌≡◌, refl, sym, ◌∙◌}
-use mathlib.Core.Bool.{false}
+use mathlib.Core.Bool.{false, cond}
 use mathlib.Core.List.{List, [], ◌∷◌, ◌++◌}
-use mathlib.Core.Logic.{inl}
-use Prim.Native.Nat.{ℕ, ◌+◌, ◌*◌, ◌≤◌, ◌<◌}
+use mathlib.Core.Logic.{⊎_elim}
+use mathlib.Core.Option.{Option, none}
+use Prim.Native.Nat.{ℕ, zero, suc, ◌+◌, ◌*◌, ◌≤◌, ◌<◌}
 use native.Mathlib.Omega.{arith}
-use borrow.Author.Tests.{le-ltb}
+use borrow.Author.Tests.{le-leb, le-ltb}
 use lib.Dec.{ltb}
 use lib.IntN.{ℤ, pos}
 use lib.ListN.{length, length-append, get_or-append}
 use Rattle.integers.specs.Laws.{option-ind}
 use Rattle.rules.specs.declared.Line.TheVariants.{LineA}
 use Rattle.rules.specs.declared.Node.{Node}
+use Rattle.rules.specs.declared.Refusal.{Refusal}
+use Rattle.rules.specs.declared.Row.{Row}
 use Rattle.rules.specs.Sheet.{segments_of}
 use Rattle.rules.specs.Tree.{width, number_at, row_at, row_count}
 use Rattle.rules.specs.Reply.{first_refusal, or_else}
 use Rattle.rules.specs.Rows.{point_checks}
-use Rattle.rules.specs.Questions.{root}
+use Rattle.rules.specs.Questions.{root, leaf, left_of, right_of, split_in}
 use Rattle.rules.specs.Build.{sheet_check, neighbour_check, build_refusal}
-use Rattle.rules.specs.Check.{read_from, fault_from, table_fault, check_refusal}
+use Rattle.rules.specs.Check.{read_from, row_fault, fault_from, table_fault, check_refusal}
 use Rattle.visits.specs.Nodes.{Fits}
-use Rattle.visits.proofs.Nodes.{root-fits, fits-row}
+use Rattle.visits.proofs.Nodes.{good-inner, root-fits, fits-row, fits-left, fits-right}
 use Rattle.table_truth.specs.Buildable.{row_numbers}
 use Rattle.table_truth.proofs.Refusals.{buildable, some-segment}
-use Rattle.checked.proofs.Alike.{faults-alike}
+use Rattle.table_truth.proofs.Rows.{leaf-or-inner}
+use Rattle.checked.proofs.Sound.{none-fine}
 
 module _ (ps t rest : List ℤ) (long : row_numbers ps ≤ length t) where
   row_same : (r : ℕ) → r < row_count (segments_of ps) → row_at (t ++ rest) r ≡ row_at t r
@@ -40,7 +44,6 @@ module _ (ps t rest : List ℤ) (long : row_numbers ps ≤ length t) where
     xmax = same 8 (omega arith) i;
     ymin = same 9 (omega arith) i;
     ymax = same 10 (omega arith) i;
-    longest = same 11 (omega arith) i;
   }
     where
       same : (k : ℕ) → k < width → number_at (t ++ rest) r k ≡ number_at t r k
@@ -51,9 +54,29 @@ module _ (ps t rest : List ℤ) (long : row_numbers ps ≤ length t) where
 
   fault-same : (f : ℕ) (n : Node) → Fits (row_count (segments_of ps)) n
       → fault_from (read_from more) f ps n ≡ fault_from (read_from t) f ps n
-  fault-same =
-      faults-alike ps (row_count (segments_of ps)) (read_from more) (read_from t)
-      (λ n h. inl (row_same n.row (fits-row h)))
+  unfolding fault_from
+  fault-same zero n h = refl
+  fault-same (suc f) n h =
+      let e = row_same n.row (fits-row h) in
+      let r = row_at t n.row in
+      (λ i. or_else (row_fault ps (e i) n) (cond (leaf n) none (halves more f (e i))))
+      ∙ option-ind
+      (λ o. or_else o (cond (leaf n) none (halves more f r)) ≡ or_else o (cond (leaf n) none (halves t f r)))
+      (row_fault ps r n)
+      (λ none_told.
+      ⊎_elim (λ l. rw (le-leb n.last (n.first + 1) l))
+      (λ l.
+      let s = good-inner ps t n (none-fine ps r n none_told).0 l in
+      let left = fault-same f (left_of n (split_in r)) (fits-left h s) in
+      let right = fault-same f (right_of n (split_in r)) (fits-right h s) in
+      λ i. cond (leaf n) none (or_else (left i) (right i)))
+      (leaf-or-inner n.first n.last))
+      (λ _ _. refl)
+    where
+      halves : List ℤ → ℕ → Row → Option Refusal
+      halves u g row =
+          or_else (fault_from (read_from u) g ps (left_of n (split_in row)))
+          (fault_from (read_from u) g ps (right_of n (split_in row)))
 
   short : (u : List ℤ) → row_numbers ps ≤ length u → ltb (length u) (row_numbers ps) ≡ false
   short u h = le-ltb (length u) (row_numbers ps) h

@@ -17,7 +17,7 @@ use Rattle.rules.specs.Tree.{row_at}
 use Rattle.rules.specs.Rows.{good}
 use Rattle.rules.specs.Reply.{or_else}
 use Rattle.rules.specs.Questions.{root, leaf}
-use Rattle.rules.specs.Build.{row_right, sound_from, sound, build_refusal, built_table}
+use Rattle.rules.specs.Build.{row_holds, sound_from, sound, build_refusal, built_table}
 use Rattle.rules.specs.Check.{read_from, fault, row_fault, fault_from, table_fault, check_refusal}
 use Rattle.visits.specs.Reached.{left_half, right_half}
 use Rattle.visits.proofs.Tests.{never}
@@ -47,9 +47,9 @@ both-none (some f) b e = never (cc)
 
 module _ (ps : List ℤ) where
   row-nothing : (r : Row) (n : Node)
-      → nothing (row_fault ps r n) ≡ good ps r n.first n.last && row_right ps r n.first n.last
+      → nothing (row_fault ps r n) ≡ good ps r n.first n.last && row_holds ps r n.first n.last
   unfolding row_fault
-  row-nothing r n = tests (good ps r n.first n.last) (row_right ps r n.first n.last)
+  row-nothing r n = tests (good ps r n.first n.last) (row_holds ps r n.first n.last)
     where
       tests : (g h : Bool) → nothing (cond g (cond h none (fault 22 n)) (fault 21 n)) ≡ g && h
       tests true true = refl
@@ -58,9 +58,9 @@ module _ (ps : List ℤ) where
 
   -- a row with no fault is good and holds its run
   pub none-fine : (r : Row) (n : Node) → row_fault ps r n ≡ none
-      → T (good ps r n.first n.last) × T (row_right ps r n.first n.last)
+      → T (good ps r n.first n.last) × T (row_holds ps r n.first n.last)
   none-fine r n e =
-      and_yes (good ps r n.first n.last) (row_right ps r n.first n.last)
+      and_yes (good ps r n.first n.last) (row_holds ps r n.first n.last)
       (T_true (sym (row-nothing r n) ∙ ap nothing e))
 
 module _ (ps t : List ℤ) where
@@ -77,7 +77,7 @@ module _ (ps t : List ℤ) where
       let r = row_at t n.row in
       nothing-both (row_fault ps r n) (cond (leaf n) none (or_else left right))
       ∙ (λ i. row-nothing ps r n i && leaf-nothing (leaf n) (or_else left right) i)
-      ∙ ap (λ (b : Bool). good ps r n.first n.last && row_right ps r n.first n.last && cond (leaf n) true b)
+      ∙ ap (λ (b : Bool). good ps r n.first n.last && row_holds ps r n.first n.last && cond (leaf n) true b)
       (nothing-both left right ∙ (λ i. nothing-sound f (left_half t n) i && nothing-sound f (right_half t n) i))
 
   -- what is accepted can be built, and is sound

@@ -5,27 +5,27 @@ use Rattle.rules.specs.declared.Node.{Node}
 use Rattle.rules.specs.declared.Refusal.{Refusal}
 use Rattle.rules.specs.Sheet.{segments_of}
 use Rattle.rules.specs.Tree.{row_at, row_count}
-use Rattle.rules.specs.Build.{row_right}
+use Rattle.rules.specs.Build.{row_holds}
 use Rattle.visits.specs.Nodes.{RowGood}
 use Rattle.visits.specs.Reached.{Reached}
 
 module _ (ps t : List ℤ) where
-  -- strip and box of a node's row hold every point of its run, and its longest is the run's
-  abbrev pub RowRight : Node → Type 0
-  RowRight n = T (row_right ps (row_at t n.row) n.first n.last)
+  -- strip and box of a node's row hold every point of its run
+  abbrev pub RowHolds : Node → Type 0
+  RowHolds n = T (row_holds ps (row_at t n.row) n.first n.last)
 
-  -- 21 where the row is not good; 22 where it is, and leaves a point out or has another longest
+  -- 21 where the row is not good; 22 where it is, and leaves a point out
   pub data Fault (n : Node) : ℕ → Type 0 where
     not_good : ¬ RowGood ps t n → Fault n 21
-    not_right : RowGood ps t n → ¬ RowRight n → Fault n 22
+    leaves-out : RowGood ps t n → ¬ RowHolds n → Fault n 22
 
-  -- row k is handed a range, is good for it, holds the points of it and has its longest
+  -- row k is handed a range, is good for it, and holds the points of it
   pub record FineRow (k : ℕ) : Type 0 where
     pub node : Node
     pub reached : Reached ps t node
     pub here : node.row ≡ k
     pub row-good : RowGood ps t node
-    pub row-right : RowRight node
+    pub row-holds : RowHolds node
 
   abbrev pub EveryRowFine : Type 0
   EveryRowFine = (k : ℕ) → k < row_count (segments_of ps) → FineRow k

@@ -1,28 +1,27 @@
 -- A row whose strip holds 0 holds its run exactly where it holds both ends, by the box and by the t of the last point,
--- and each point between them; it is right where its longest is the run's, too. A leaf has no point between.
-use mathlib.Core.Path.{◌≡◌, refl, sym, ap, subst, ◌∙◌}
-use mathlib.Core.Bool.{Bool, true, false, ◌&&◌}
+-- and each point between them.
+use mathlib.Core.Path.{◌≡◌, sym, subst}
+use mathlib.Core.Bool.{Bool, false, ◌&&◌}
 use mathlib.Core.List.{List}
-use Prim.Native.Nat.{ℕ, suc, ◌+◌, ◌-◌, ◌≤◌, ◌<◌}
+use Prim.Native.Nat.{ℕ, suc, ◌-◌, ◌≤◌, ◌<◌}
 use native.Mathlib.Decide.{ℕ_discrete}
 use native.Mathlib.Omega.{arith}
 use lib.Dec.{T, T_not}
 use lib.IntN.{ℤ, pos}
 use lib.Signed.{le_z, le_z_yes}
 use mir.Facts.{and_yes, yes_and}
-use Rattle.integers.specs.Order.{≤ℤ-trans, T_true, T_false, yes-T, no-T}
+use Rattle.integers.specs.Order.{≤ℤ-trans, T_false, no-T}
 use Rattle.rules.specs.declared.Point.{Point}
 use Rattle.rules.specs.declared.Row.{Row}
-use Rattle.rules.specs.Plane.{step, direction, size², eq_z}
+use Rattle.rules.specs.Plane.{step, direction, size²}
 use Rattle.rules.specs.Sheet.{point}
-use Rattle.rules.specs.Tree.{node_c, node_t, longest_in}
-use Rattle.rules.specs.Build.{holds_number, strip_holds, box_holds, holds_point, row_holds, row_right}
+use Rattle.rules.specs.Tree.{node_c, node_t}
+use Rattle.rules.specs.Build.{holds_number, strip_holds, box_holds, holds_point, row_holds}
 use Rattle.visits.specs.Nodes.{HoldsStart}
 use Rattle.visits.proofs.Counts.{every_of-read, every_of-make}
 use Rattle.visits.proofs.Held.{Within, number-held, held_number}
 use Rattle.visits.proofs.Terms.{c-start, t-start}
-use Rattle.run.proofs.Ends.{c-end, t-end, square, max-zero}
-use Rattle.run.proofs.Longest.{longest_from, longest-next, longest-from}
+use Rattle.run.proofs.Ends.{c-end, t-end, square}
 
 module _ (ps : List ℤ) (r : Row) (first last : ℕ) where
   abbrev s : Point
@@ -40,22 +39,6 @@ module _ (ps : List ℤ) (r : Row) (first last : ℕ) where
   -- the box of both ends, and the t of the last point
   abbrev pub ends : Bool
   ends = le_z (size² (step s e)) r.tmax && box_holds r s && box_holds r e
-
-  -- both as they are read
-  pub held-read : (i : ℕ) {h : Bool} {c t : ℤ} {p : Point} → c ≡ node_c ps first last (point ps i)
-      → t ≡ node_t ps first last (point ps i) → p ≡ point ps i → h ≡ strip_holds r c t && box_holds r p → h ≡ held i
-  unfolding holds_point
-  held-read i c t p w = w ∙ (λ d. strip_holds r (c d) (t d) && box_holds r (p d))
-
-  pub ends_read : {h : Bool} {a b : Point} → a ≡ s → b ≡ e
-      → h ≡ le_z (size² (step a b)) r.tmax && box_holds r a && box_holds r b → h ≡ ends
-  ends_read a b w = w ∙ (λ d. le_z (size² (step (a d) (b d))) r.tmax && box_holds r (a d) && box_holds r (b d))
-
-  -- ---------------- the points decide first
-  pub right_by : {h : Bool} → row_holds ps r first last ≡ h
-      → h && eq_z r.longest (longest_in ps first last) ≡ row_right ps r first last
-  unfolding row_right
-  right_by e = λ d. sym e d && eq_z r.longest (longest_in ps first last)
 
   -- ---------------- a point of the run that is not held
   pub not-held : (i : ℕ) → first ≤ i → i ≤ last → held i ≡ false → row_holds ps r first last ≡ false
@@ -120,28 +103,3 @@ module _ (ps : List ℤ) (r : Row) (first last : ℕ) where
             | no z ↦ between i (omega arith) (omega arith)
           ]
         ]
-
--- ---------------- one segment
-module _ (ps : List ℤ) (r : Row) (first : ℕ) where
-  abbrev next : ℕ
-  next = first + 1
-
-  -- its longest is its own
-  longest-one : size² (step (point ps first) (point ps next)) ≡ longest_in ps first next
-  longest-one =
-      let none : 0 ≡ first - first = omega arith in
-      sym (max-zero (square (point ps first) (point ps next)))
-      ∙ longest-next ps first first (omega arith) (ap (longest_from ps first) none) refl refl
-      ∙ longest-from ps first next (next - first) (omega arith) refl
-
-  ends-decide : HoldsStart r → (h : Bool) → ends ps r first next ≡ h → row_holds ps r first next ≡ h
-  ends-decide zero true e =
-      yes-T (row_holds ps r first next) (all_held ps r first next zero (T_true e) (λ i a b. absurd (omega arith)))
-  ends-decide zero false e = ends-not-held ps r first next zero (omega arith) e
-
-  pub right-one : HoldsStart r
-      → ends ps r first next && eq_z r.longest (size² (step (point ps first) (point ps next)))
-      ≡ row_right ps r first next
-  right-one zero =
-      ap (λ (z : ℤ). ends ps r first next && eq_z r.longest z) longest-one
-      ∙ right_by ps r first next (ends-decide zero (ends ps r first next) refl)

@@ -1,3 +1,2 @@
 -- What the contracts of the checker are said with.
 pub mod Found
-pub mod Reads

@@ -1,4 +1,4 @@
--- The questions, of tables that the checker accepted, whoever wrote them: such a table is sound and passes the
+-- The four questions, of tables that the checker accepted, whoever wrote them: such a table is sound and passes the
 -- checks of lengths, so that only the question's own checks are left.
 use mathlib.Core.Path.{◌≡◌, ◌∙◌}
 use mathlib.Core.List.{List, [], ◌∷◌, ◌++◌}
@@ -12,13 +12,11 @@ use Rattle.rules.specs.Reply.{Check, first_refusal, or_else}
 use Rattle.rules.specs.Rows.{length_checks, distance_check, asked_check, ring_check}
 use Rattle.rules.specs.Questions.{near_reply, meet_reply, in_reply, agree_reply}
 use Rattle.rules.specs.Check.{check_refusal}
-use Rattle.rules.specs.Longer.{plain_longer, longer_reply, longer_list}
 use Rattle.visits.proofs.Checks.{clear_none, lengths-clear, first-append}
 use Rattle.table_truth.proofs.Refusals.{buildable}
 use Rattle.checked.proofs.Sound.{accepted-buildable, accepted-sound}
-use Rattle.longer_truth.specs.Listing.{LongerSegment}
-use Rattle.demands.specs.Answers.{Answers, Listing, near_plain, meet_plain, in_plain, agree_plain}
-use Rattle.demands.proofs.Sound.{near-answers, in-answers, meet-answers, agree-answers, longer-answers}
+use Rattle.demands.specs.Answers.{Answers, near_plain, meet_plain, in_plain, agree_plain}
+use Rattle.demands.proofs.Sound.{near-answers, in-answers, meet-answers, agree-answers}
 
 -- an accepted table's lengths refuse nothing, as whichever line ..
 lengths-pass : (l : Line) (ps t : List ℤ) → check_refusal ps t ≡ none → first_refusal (length_checks l ps t) ≡ none
@@ -45,13 +43,6 @@ module _ (ps t : List ℤ) (accepted : check_refusal ps t ≡ none) where
   in-accepted z e =
       in-answers ps t z (accepted-sound ps t accepted)
       (after-lengths LineA ps t (asked_check z ∷ ring_check LineA ps ∷ []) accepted e)
-
-  -- LONGER, of an accepted table
-  pub longer-accepted : (L : ℤ) → first_refusal (distance_check L ∷ []) ≡ none
-      → Listing (longer_reply ps t L) (longer_list ps t L) (plain_longer ps L) (LongerSegment ps L) (point_enough ps)
-  longer-accepted L e =
-      longer-answers ps t L (accepted-sound ps t accepted)
-      (after-lengths LineA ps t (distance_check L ∷ []) accepted e)
 
   module _ (qs t' : List ℤ) (accepted' : check_refusal qs t' ≡ none) where
     -- MEET, of accepted tables: it has no checks of its own

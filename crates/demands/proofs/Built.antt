@@ -1,4 +1,4 @@
--- The questions, of built tables: the checker accepts them.
+-- The four questions, of built tables: the checker accepts them.
 use mathlib.Core.Path.{◌≡◌}
 use mathlib.Core.List.{List, [], ◌∷◌}
 use mathlib.Core.Option.{none}
@@ -10,11 +10,9 @@ use Rattle.rules.specs.Reply.{first_refusal}
 use Rattle.rules.specs.Rows.{distance_check, asked_check, ring_check}
 use Rattle.rules.specs.Questions.{near_reply, meet_reply, in_reply, agree_reply}
 use Rattle.rules.specs.Build.{build_refusal, built_table}
-use Rattle.rules.specs.Longer.{plain_longer, longer_reply, longer_list}
 use Rattle.checked.proofs.Sound.{built-accepted}
-use Rattle.longer_truth.specs.Listing.{LongerSegment}
-use Rattle.demands.specs.Answers.{Answers, Listing, near_plain, meet_plain, in_plain, agree_plain}
-use Rattle.demands.proofs.Accepted.{near-accepted, in-accepted, meet-accepted, agree-accepted, longer-accepted}
+use Rattle.demands.specs.Answers.{Answers, near_plain, meet_plain, in_plain, agree_plain}
+use Rattle.demands.proofs.Accepted.{near-accepted, in-accepted, meet-accepted, agree-accepted}
 
 module _ (ps t : List ℤ) (built : build_refusal ps t ≡ none) where
   -- NEAR, of a built table
@@ -26,12 +24,6 @@ module _ (ps t : List ℤ) (built : build_refusal ps t ≡ none) where
   pub in-built : (z : Point) → first_refusal (asked_check z ∷ ring_check LineA ps ∷ []) ≡ none
       → Answers (in_reply ps (built_table ps t) z) (in_plain ps z) (point_enough ps)
   in-built = in-accepted ps (built_table ps t) (built-accepted ps t built)
-
-  -- LONGER, of a built table
-  pub longer-built : (L : ℤ) → first_refusal (distance_check L ∷ []) ≡ none
-      → Listing (longer_reply ps (built_table ps t) L) (longer_list ps (built_table ps t) L) (plain_longer ps L)
-      (LongerSegment ps L) (point_enough ps)
-  longer-built = longer-accepted ps (built_table ps t) (built-accepted ps t built)
 
   module _ (qs t' : List ℤ) (built' : build_refusal qs t' ≡ none) where
     -- MEET, of built tables: it has no checks of its own

@@ -1,6 +1,5 @@
--- The questions, of any sound table: what decides a question (demand 3) and is never wrong about it (demand 2) answers
--- it. What a reply says beside its word is read off the walk: only a refusal, and AGREE's NO, say more. LONGER's list
--- is the plain one.
+-- The four questions, of any sound table: what decides a question (demand 3) and is never wrong about it (demand 2)
+-- answers it. What a reply says beside its word is read off the walk: only a refusal, and AGREE's NO, say more.
 use mathlib.Core.Path.{◌≡◌, refl, sym, ◌∙◌, ap}
 use mathlib.Core.Bool.{Bool, true, false, cond}
 use mathlib.Core.List.{List}
@@ -25,7 +24,6 @@ use Rattle.rules.specs.Questions.{Nothing, yes_or_no, near_walk, near_checks, ne
 use Rattle.rules.specs.Questions.{side_of_ring, in_walk, in_checks, in_reply}
 use Rattle.rules.specs.Questions.{Asked, all_near, not_near, unasked, faulted, agree_walk, agreed, agree_checks, agree_reply}
 use Rattle.rules.specs.Build.{sound}
-use Rattle.rules.specs.Longer.{plain_longer, longer_checks, longer_reply, longer_list}
 use Rattle.visits.specs.Truthful.{SaysOnly}
 use Rattle.visits.proofs.Tests.{never}
 use Rattle.allowance.specs.Decides.{Decides}
@@ -34,12 +32,7 @@ use Rattle.near_truth.proofs.NearReply.{near-true}
 use Rattle.near_truth.proofs.Agree.{AgreeTells, agree-tells}
 use Rattle.ring_truth.proofs.Truth.{in-true}
 use Rattle.meet_truth.proofs.Truth.{meet-true}
-use Rattle.longer_truth.specs.Listing.{LongerSegment}
-use Rattle.longer_truth.proofs.Listing.{plain-rising, plain-exactly}
-use Rattle.longer_truth.proofs.Truth.{longer-true, longer-none}
-use Rattle.longer_truth.proofs.Written.{asked-fine, longer-refused-writes-nothing, room-listed, room-written}
-use Rattle.longer_truth.proofs.Written.{short-refused}
-use Rattle.demands.specs.Answers.{Answers, Listing, near_plain, meet_plain, in_plain, agree_plain}
+use Rattle.demands.specs.Answers.{Answers, near_plain, meet_plain, in_plain, agree_plain}
 use Rattle.demands.proofs.Agreement.{agrees-plain, disagrees-plain}
 
 -- ---------------- what is decided and truthful answers
@@ -144,24 +137,3 @@ agree-answers ps t qs t' D held held' e =
     (λ a.
     let w = agree_walk ps t qs t' D (fresh a) in
     rw e (agreed-honest ps qs D a w (agree-tells ps t qs t' D a held held' e (fresh a))))
-
--- ---------------- LONGER
-
--- LONGER, of any sound table: its list is the plain one
-pub longer-answers : (ps t : List ℤ) (L : ℤ) → T (sound ps t)
-    → first_refusal (longer_checks ps t L) ≡ none
-    → Listing (longer_reply ps t L) (longer_list ps t L) (plain_longer ps L) (LongerSegment ps L) (point_enough ps)
-longer-answers ps t L held e =
-    let fine = asked-fine ps t L e in
-    let w = longer-true ps t L held fine in
-    record {
-      rising = plain-rising ps L;
-      exactly = plain-exactly ps L;
-      visits = w.tally.visits;
-      bounded = w.bounded;
-      none-once = λ none. let y = longer-none ps t L held fine none in cc;
-      given = λ list room. room-listed ps t L list e w.came room;
-      written = λ list room. room-written ps t L list e w.came room;
-      short = λ list less. short-refused ps t L list e w.came less;
-      kept = λ list less. longer-refused-writes-nothing ps t L list _ (short-refused ps t L list e w.came less);
-    }

@@ -1,10 +1,6 @@
--- What it means that a question is answered as plain geometry says, and what that is for each question. LONGER has no
--- allowance, and its answer is a list: what it means that it is the plain one.
-use Rattle.std.specs.Prelude.{◌≡◌, not, cond, ◌↔◌, ℕ, ◌≤◌, ◌<◌, ltb, ℤ, length}
-use mathlib.Core.List.{List, [], Memᴰ as In}
-use Rattle.rules.specs.declared.Line.TheVariants.{NoLine, LineA, LineB}
-use Rattle.rules.specs.declared.Listed.{Listed}
-use Rattle.rules.specs.declared.Listed.TheVariants as listed
+-- What it means that a question is answered as plain geometry says, and what that is for each of the four questions.
+use Rattle.std.specs.Prelude.{◌≡◌, not, cond, List, ℕ, ◌≤◌, ◌<◌, ltb, ℤ}
+use Rattle.rules.specs.declared.Line.TheVariants.{LineA, LineB}
 use Rattle.rules.specs.declared.Point.{Point}
 use Rattle.rules.specs.Sheet.{point, points_of}
 use Rattle.rules.specs.Plain.{plain_near, plain_meet}
@@ -12,9 +8,7 @@ use Rattle.rules.specs.declared.Word.TheVariants.{YES, NO, UNDECIDED}
 use Rattle.rules.specs.declared.Reply.{Reply}
 use Rattle.rules.specs.Reply.{says, disagrees}
 use Rattle.rules.specs.Build.{lowest}
-use Rattle.rules.specs.Longer.{put}
 use Rattle.ring_truth.specs.Truth.{plain_side}
-use Rattle.longer_truth.specs.Listing.{Rising}
 
 -- There is a number of visits, at most `enough`: with at least so many allowed the reply is what plain geometry says,
 -- after exactly so many visits; with fewer it is UNDECIDED, with the allowance as its visits.
@@ -23,22 +17,6 @@ pub record Answers (reply plain : ℕ → Reply) (enough : ℕ) : Type 0 where
   pub bounded : needs ≤ enough
   pub given : (allowance : ℕ) → needs ≤ allowance → reply allowance ≡ plain needs
   pub undecided : (allowance : ℕ) → allowance < needs → reply allowance ≡ says UNDECIDED allowance
-
--- The plain list rises, and has exactly the segments that are wanted. There is a number of visits, at most `enough`,
--- and 1 where the plain list is empty. After them, where a lent list has room for it, it stands at the front, its
--- numbers are counted, and the rest is as it was; where there is no room that is 24, and all is as it was.
-pub record Listing (reply : List ℤ → Listed) (after : List ℤ → List ℤ) (plain : List ℕ) (Wanted : ℕ → Type 0)
-    (enough : ℕ) : Type 0 where
-  pub rising : Rising plain
-  pub exactly : (i : ℕ) → In i plain ↔ Wanted i
-  pub visits : ℕ
-  pub bounded : visits ≤ enough
-  pub none-once : plain ≡ [] → visits ≡ 1
-  pub given : (list : List ℤ) → length plain ≤ length list → reply list ≡ listed.Entries (length plain) visits
-  pub written : (list : List ℤ) → length plain ≤ length list → after list ≡ put plain list
-  pub short : (list : List ℤ) → length list < length plain
-      → reply list ≡ listed.Refused (record { number = 24; line = NoLine; place = 0; visits = visits })
-  pub kept : (list : List ℤ) → length list < length plain → after list ≡ list
 
 -- ---- what plain geometry says, after v visits
 abbrev pub near_plain : List ℤ → Point → ℤ → ℕ → Reply

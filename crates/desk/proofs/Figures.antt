@@ -5,7 +5,7 @@ use mathlib.Core.List.{List, [], ◌∷◌}
 use Prim.Native.Nat.{ℕ}
 use Rattle.rules.specs.Plane.{direction}
 use Rattle.rules.specs.Sheet.{between}
-use Rattle.rules.specs.Tree.{least, greatest, longest_in, height, better, best, split_of, row_at, measured, rows_of}
+use Rattle.rules.specs.Tree.{least, greatest, height, better, best, split_of, row_at, measured, rows_of}
 use Rattle.rules.specs.Plain.{within}
 use Rattle.rules.specs.Walk.{walk}
 use Rattle.rules.specs.Rows.{good}
@@ -32,7 +32,7 @@ written =
     ∷ 66 ∷ 9 ∷ 48 ∷ 10 ∷ []
 
 pub whole-case : program read ≡ written
-unfolding least greatest longest_in height better best split_of row_at measured rows_of direction between within walk good
-    shortfall far_from near_visit near_reply lowest build_refusal table_of fields same_bytes all_digits value_from numeral
+unfolding least greatest height better best split_of row_at measured rows_of direction between within walk good shortfall
+    far_from near_visit near_reply lowest build_refusal table_of fields same_bytes all_digits value_from numeral
     is record_of digits_of printed with_table take_text text_lines replies program
 whole-case = refl

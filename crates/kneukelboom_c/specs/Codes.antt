@@ -3,8 +3,6 @@ use Rattle.std.proofs.Math.Option.{Option, none, some}
 use Rattle.std.specs.Prelude.{ℕ}
 use Rattle.rules.specs.declared.Line.{Line}
 use Rattle.rules.specs.declared.Line.TheVariants.{NoLine, LineA, LineB}
-use Rattle.rules.specs.declared.Listed.{Listed}
-use Rattle.rules.specs.declared.Listed.TheVariants as listed
 use Rattle.rules.specs.declared.Refusal.{Refusal}
 use Rattle.rules.specs.declared.Word.{Word}
 use Rattle.rules.specs.declared.Word.TheVariants.{YES, NO, INSIDE, OUTSIDE, ON, UNDECIDED, REFUSED}
@@ -34,15 +32,8 @@ coded r =
       number = r.number;
       line = line_code r.line;
       place = r.place;
-      entries = 0;
     }
 
 abbrev pub coded_checked : Option Refusal → KneukelboomReply
-coded_checked none = record { word = 0; visits = 0; number = 0; line = 0; place = 0; entries = 0 }
+coded_checked none = record { word = 0; visits = 0; number = 0; line = 0; place = 0 }
 coded_checked (some r) = coded (refuses r)
-
--- a list is the word 8, with the entries that were written
-abbrev pub coded_listed : Listed → KneukelboomReply
-coded_listed (listed.Entries count visits) =
-    record { word = 8; visits = visits; number = 0; line = 0; place = 0; entries = count }
-coded_listed (listed.Refused r) = coded (refuses r)

@@ -4,16 +4,14 @@ ghost use Rattle.std.specs.Prelude.{◌≡◌};
 ghost use Rattle.rules.specs.Build.{build_refusal, built_table};
 ghost use Rattle.rules.specs.Old.{widen_refusal, widened};
 ghost use Rattle.rules.specs.Check.{check_refusal};
-ghost use Rattle.rules.specs.Complete.{complete_refusal, completed};
-ghost use Rattle.rules.specs.Longer.{longer_reply, longer_list};
 ghost use Rattle.rules.specs.Reply.{checked_refusal};
 ghost use Rattle.rules.specs.Questions.{near_reply, meet_reply, in_reply, agree_reply};
-ghost use Rattle.kneukelboom_c.specs.Codes.{word_code, line_code, coded, coded_checked, coded_listed};
+ghost use Rattle.kneukelboom_c.specs.Codes.{word_code, line_code, coded, coded_checked};
 
-use rules::{Checked, Line, Listed, Point, Reply, Word, refuses};
+use rules::{Checked, Line, Point, Reply, Word, refuses};
 
-// What a call answers, in numbers: the word's code, the visits, the refusal number or 0, the line's code, the place or
-// 0, and the entries that were written into a list.
+// What a call answers, in numbers: the word's code, the visits, the refusal number or 0, the line's code, and the
+// place or 0.
 #[repr(C)]
 #[derive(Drop)]
 pub struct KneukelboomReply {
@@ -22,7 +20,6 @@ pub struct KneukelboomReply {
     pub number: u32,
     pub line: u32,
     pub place: u64,
-    pub entries: u32,
 }
 
 fn line_code(line: Line) -> u32
@@ -61,11 +58,10 @@ fn coded(reply: Reply) -> KneukelboomReply
         number: reply.number,
         line: line_code(line),
         place: reply.place as u64,
-        entries: 0,
     }
 }
 
-// What the checks of a build, of a widening, of a completion or of a table came to, in numbers.
+// What the checks of a build, of a widening or of a table came to, in numbers.
 fn coded_checked(checked: Checked) -> KneukelboomReply
     ensures { result ≡ coded_checked (checked_refusal checked) }
 {
@@ -76,31 +72,13 @@ fn coded_checked(checked: Checked) -> KneukelboomReply
             number: 0,
             line: 0,
             place: 0,
-            entries: 0,
         },
         Checked::Refused(refusal) => coded(refuses(refusal)),
     }
 }
 
-// What a question that writes a list came to, in numbers.
-fn coded_listed(answer: Listed) -> KneukelboomReply
-    ensures { result ≡ coded_listed answer }
-{
-    match answer {
-        Listed::Entries(count, visits) => KneukelboomReply {
-            word: 8,
-            visits,
-            number: 0,
-            line: 0,
-            place: 0,
-            entries: count,
-        },
-        Listed::Refused(refusal) => coded(refuses(refusal)),
-    }
-}
-
 #[unsafe(no_mangle)]
-pub extern "C" fn kneukelboom_widen_v3(old: &[i32], new: &mut [i64]) -> KneukelboomReply
+pub extern "C" fn kneukelboom_widen_v2(old: &[i32], new: &mut [i64]) -> KneukelboomReply
     ensures value { result ≡ coded_checked (widen_refusal old.now new.old) }
     ensures after { new.new ≡ widened old.now new.old }
 {
@@ -108,7 +86,7 @@ pub extern "C" fn kneukelboom_widen_v3(old: &[i32], new: &mut [i64]) -> Kneukelb
 }
 
 #[unsafe(no_mangle)]
-pub extern "C" fn kneukelboom_build_v3(points: &[i64], table: &mut [i64]) -> KneukelboomReply
+pub extern "C" fn kneukelboom_build_v2(points: &[i64], table: &mut [i64]) -> KneukelboomReply
     ensures value { result ≡ coded_checked (build_refusal points.now table.old) }
     ensures table_after { table.new ≡ built_table points.now table.old }
 {
@@ -116,28 +94,14 @@ pub extern "C" fn kneukelboom_build_v3(points: &[i64], table: &mut [i64]) -> Kne
 }
 
 #[unsafe(no_mangle)]
-pub extern "C" fn kneukelboom_check_v3(points: &[i64], table: &[i64]) -> KneukelboomReply
+pub extern "C" fn kneukelboom_check_v2(points: &[i64], table: &[i64]) -> KneukelboomReply
     ensures { result ≡ coded_checked (check_refusal points.now table.now) }
 {
     coded_checked(checker::check(points, table))
 }
 
 #[unsafe(no_mangle)]
-pub extern "C" fn kneukelboom_complete_v3(
-    points: &[i64],
-    old: &[i64],
-    table: &mut [i64],
-) -> KneukelboomReply
-    ensures value { result
-        ≡ coded_checked (complete_refusal points.now old.now table.old) }
-    ensures table_after { table.new
-        ≡ completed points.now old.now table.old }
-{
-    coded_checked(complete::complete(points, old, table))
-}
-
-#[unsafe(no_mangle)]
-pub extern "C" fn kneukelboom_near_v3(
+pub extern "C" fn kneukelboom_near_v2(
     points: &[i64],
     table: &[i64],
     x: i64,
@@ -152,7 +116,7 @@ pub extern "C" fn kneukelboom_near_v3(
 }
 
 #[unsafe(no_mangle)]
-pub extern "C" fn kneukelboom_inside_v3(
+pub extern "C" fn kneukelboom_inside_v2(
     points: &[i64],
     table: &[i64],
     x: i64,
@@ -166,7 +130,7 @@ pub extern "C" fn kneukelboom_inside_v3(
 }
 
 #[unsafe(no_mangle)]
-pub extern "C" fn kneukelboom_meet_v3(
+pub extern "C" fn kneukelboom_meet_v2(
     points_a: &[i64],
     table_a: &[i64],
     points_b: &[i64],
@@ -180,7 +144,7 @@ pub extern "C" fn kneukelboom_meet_v3(
 }
 
 #[unsafe(no_mangle)]
-pub extern "C" fn kneukelboom_agree_v3(
+pub extern "C" fn kneukelboom_agree_v2(
     points_a: &[i64],
     table_a: &[i64],
     points_b: &[i64],
@@ -192,19 +156,4 @@ pub extern "C" fn kneukelboom_agree_v3(
         points_b.now table_b.now distance allowance) }
 {
     coded(agree::agree(points_a, table_a, points_b, table_b, distance, allowance))
-}
-
-#[unsafe(no_mangle)]
-pub extern "C" fn kneukelboom_longer_v3(
-    points: &[i64],
-    table: &[i64],
-    length: i64,
-    list: &mut [i64],
-) -> KneukelboomReply
-    ensures value { result
-        ≡ coded_listed (longer_reply points.now table.now length list.old) }
-    ensures list_after { list.new
-        ≡ longer_list points.now table.now length list.old }
-{
-    coded_listed(longer::longer(points, table, length, list))
 }

@@ -20,5 +20,3 @@ pub const XMAX: usize = 8;
 pub const YMIN: usize = 9;
 
 pub const YMAX: usize = 10;
-
-pub const LONGEST: usize = 11;

@@ -4,10 +4,7 @@
 pub mod column;
 
 // The numbers of a row: column.rt says where each stands.
-pub const WIDTH: usize = column::LONGEST + 1;
-
-// A row of a table of before had no longest.
-pub const OLD_WIDTH: usize = column::LONGEST;
+pub const WIDTH: usize = column::YMAX + 1;
 
 // A line has FEWEST to MOST points, and its table at most MOST_ROWS rows.
 pub const FEWEST: usize = 2;

@@ -3,4 +3,3 @@ pub mod Smalls
 pub mod Stored
 pub mod Lengths
 pub mod Headings
-pub mod Next

@@ -2,13 +2,12 @@
 // ask for. Every function says its result by a definition of `rules`.
 ghost use Rattle.std.specs.Prelude.{◌≡◌, ◌+◌, ◌*◌, ◌<◌, ◌+ℤ◌, ◌-ℤ◌, ◌*ℤ◌, length};
 ghost use Rattle.integers.specs.Order.{min_z, max_z};
-ghost use Rattle.integers.specs.Range.{Abs≤};
 ghost use Rattle.rules.specs.Plane.{same_point, step, direction, c_at, t_at, size²};
 ghost use Rattle.rules.specs.Sheet.{point, in_sheet, on_sheet};
 ghost use Rattle.rules.specs.Reply.{checked_refusal, first_refusal};
 ghost use Rattle.rules.specs.Rows.{length_checks};
 ghost use Rattle.rules.specs.Build.{holds_number};
-ghost use Rattle.limits.specs.Small.{OnSheet, Small, widest};
+ghost use Rattle.limits.specs.Small.{OnSheet, Small};
 
 use limits::{FEWEST, LIMIT, MOST, WIDTH};
 use rules::{Checked, Line, Point, Refusal};
@@ -118,21 +117,6 @@ pub fn t_at(s: Point, u: Point, p: Point) -> i64
     ensures { result ≡ t_at s u p }
 {
     dot(u, step(s, p))
-}
-
-// c and t of a point, by those of the point before it and the step d between them.
-pub fn c_next(c: i64, u: Point, d: Point) -> i64
-    requires { Abs≤ widest c × Small u × Small d }
-    ensures { result ≡ c +ℤ (u.x *ℤ d.y -ℤ u.y *ℤ d.x) }
-{
-    c + cross(u, d)
-}
-
-pub fn t_next(t: i64, u: Point, d: Point) -> i64
-    requires { Abs≤ widest t × Small u × Small d }
-    ensures { result ≡ t +ℤ (u.x *ℤ d.x +ℤ u.y *ℤ d.y) }
-{
-    t + dot(u, d)
 }
 
 pub fn size2(u: Point) -> i64

@@ -1,23 +1,26 @@
 -- What a good row that was read gives: points, a heading and a box for exact arithmetic, and an inner split.
 use mathlib.Core.Path.{◌≡◌, sym, ◌∙◌, ap, subst, subst₂}
-use mathlib.Core.Bool.{Bool}
+use mathlib.Core.Bool.{Bool, ◌&&◌}
 use mathlib.Core.List.{List}
 use Prim.Native.Nat.{ℕ, ◌+◌, ◌<◌}
 use lib.Dec.{T}
 use lib.IntN.{ℤ, pos, nat_abs}
 use lib.Signed.{◌≤ℤ◌}
+use mir.Facts.{and_yes}
 use native.Mathlib.Omega.{arith}
 use Rattle.integers.specs.Laws.{zarith}
+use Rattle.integers.specs.Order.{eq_z, eq_z-yes}
 use Rattle.rules.specs.declared.Node.{Node}
 use Rattle.rules.specs.declared.Pair.{Pair}
 use Rattle.rules.specs.declared.Point.{Point}
 use Rattle.rules.specs.declared.Row.{Row}
 use Rattle.rules.specs.Plane.{direction}
 use Rattle.rules.specs.Tree.{row_at}
-use Rattle.rules.specs.Rows.{good}
+use Rattle.rules.specs.Rows.{range_good, split_good, strip_good, box_good, ends_good, leaf_good, good}
 use Rattle.rules.specs.Questions.{split_in, start_of, end_of, heading_of, apart}
 use Rattle.visits.specs.Nodes.{Inner}
-use Rattle.visits.proofs.Nodes.{GoodRow, good-read, range-read, fits-row}
+use Rattle.visits.proofs.Nodes.{GoodRow, good-read, fits-row}
+use Rattle.visits.proofs.Tests.{four-yes}
 use Rattle.row.proofs.Places.{row_small}
 use Rattle.limits.specs.Small.{OnSheet}
 use Rattle.apart.specs.Placed.{Placed}
@@ -57,11 +60,20 @@ pub compared-read : (ps qs : List ℤ) (n : Pair) {r r' q q' : Row} {x : ℕ} �
 compared-read ps qs n e f h = h ∙ (λ i. compared ps (e i) qs (f i) n)
 
 -- ---------------- a good row tells its node
+pub range-read : (ps : List ℤ) (r : Row) (first last : ℕ) → T (good ps r first last)
+    → (r.first ≡ pos first) × (r.last ≡ pos last)
+unfolding good
+range-read ps r first last h =
+    let four = range_good r first last && split_good r first last && strip_good r && box_good r in
+    let ends = ends_good ps first last in
+    let e = and_yes four ends (and_yes (four && ends) (leaf_good ps first last) h).0 in
+    let f = four-yes (range_good r first last) (split_good r first last) (strip_good r) (box_good r) e.0 in
+    let g = and_yes (eq_z r.first (pos first)) (eq_z r.last (pos last)) f.0 in
+    (eq_z-yes {a = r.first} {b = pos first} g.0, eq_z-yes {a = r.last} {b = pos last} g.1)
+
 module _ {ps t : List ℤ} {n : Node} (h : NodeStands ps t n) where
   range : ((row_at t n.row).first ≡ pos n.first) × ((row_at t n.row).last ≡ pos n.last)
-  range =
-      let r = row_at t n.row in
-      range-read r n.first n.last (good-read ps r n.first n.last h.row-good).range
+  range = range-read ps (row_at t n.row) n.first n.last h.row-good
 
   pub node-told : node_in t n.row ≡ n
   node-told = λ i. record { row = n.row; first = nat_abs (range.0 i); last = nat_abs (range.1 i) }

@@ -18,10 +18,9 @@ use Rattle.rules.specs.Sheet.{point, on_sheet}
 use Rattle.rules.specs.Tree.{row_at}
 use Rattle.rules.specs.Walk.{next, refuse, halve}
 use Rattle.rules.specs.Questions.{Nothing, size, left_of, right_of, meet_visit}
-use Rattle.visits.proofs.Nodes.{good-read}
+use Rattle.visits.proofs.Nodes.{GoodRow, good-read}
 use Rattle.row.specs.Stands.{Stands, EndsOn}
-use Rattle.row.proofs.Parts.{end-off}
-use Rattle.row.proofs.Places.{row_small, left-stands, right-stands, left-ends, right-ends}
+use Rattle.row.proofs.Places.{row_small, left-stands, right-stands}
 use Rattle.ending.specs.Ending.{end_in, ENDED, bad_row, bad_second, tally_in, due}
 use Rattle.ending.proofs.OneLevel.{Level, says, whole, below, left-stops, right-goes}
 use Rattle.ending.proofs.OneLevel.{bad-left, second-bad-left, bad-right, second-bad-right}
@@ -133,9 +132,9 @@ module _ {ps t qs t' : List ℤ} {m : Pair} {rows : ℕ} (h : Handed ps t qs t' 
   pub walked_to : (y : Tally) (r : ℕ) → Walks ps t qs t' (pair_in t t' rows) y r → Walks ps t qs t' m y r
   walked_to y r w = subst (λ (p : Pair). Walks ps t qs t' p y r) h.told w
 
--- what was asked for is so
-is-so : {g b : Bool} → g ≡ b → not g ≡ false → T b
-is-so said g = T_true (sym said ∙ not-false _ g)
+-- a row that was asked for is good
+is-good : {g b : Bool} → g ≡ b → not g ≡ false → T b
+is-good said g = T_true (sym said ∙ not-false _ g)
 
 -- the left half is walked and is over, and this tally follows
 pub record LeftOver {k : Side} {ps t qs t' : List ℤ} {n : Pair} {split : ℕ} (o : HalvedOn k ps t qs t' n split)
@@ -165,19 +164,18 @@ module _ {k : Side} {ps t qs t' : List ℤ} {n : Pair} {split : ℕ} (o : Halved
   pub right-half : Stands points table right_node
   right-half = right-stands (stands_on o.pair-stands k).stands o.inner
 
-  -- the row of the node tells that it begins and ends on the sheet
-  ends : EndsOn points (node_on k n)
-  ends =
-      let r = good-read points _ (node_on k n).first (node_on k n).last (stands_on o.pair-stands k).row-good in
-      record { start-on = r.start-on; end_on = r.end_on }
+  -- what the row of the node tells, and that of the left half: where they begin and end
+  tells : GoodRow points (row_at table (node_on k n).row) (node_on k n).first (node_on k n).last
+  tells = good-read points _ (node_on k n).first (node_on k n).last (stands_on o.pair-stands k).row-good
 
-  -- where the split was asked for and is on the sheet, so do the halves
-  module _ {g : Bool} (said : g ≡ on_sheet (point points split)) (on : not g ≡ false) where
-    pub left-on : EndsOn points left_node
-    left-on = left-ends ends (is-so said on)
+  pub left-start : T (on_sheet (point points left_node.first))
+  left-start = tells.start-on
 
-    pub right-on : EndsOn points right_node
-    right-on = right-ends ends (is-so said on)
+  -- where the row of the left half was asked for and is good, it tells where the right half begins
+  pub right-ends : {g : Bool} → g ≡ good_at points table left_node → not g ≡ false → EndsOn points right_node
+  right-ends said g =
+      let r = good-read points _ left_node.first split (is-good said g) in
+      record { start-on = r.end_on; end_on = tells.end_on }
 
   pub left-fewer : Fewer (left_on k n split) n
   left-fewer = fewer-on k o.pair-stands left_node o.inner.above (omega (arith, o.inner)) (omega arith)
@@ -189,11 +187,11 @@ module _ {k : Side} {ps t qs t' : List ℤ} {n : Pair} {split : ℕ} (o : Halved
   -- a half is a pair to walk from where its row was asked for and is good
   pub left-pair : {g : Bool} → g ≡ good_at points table left_node → not g ≡ false
       → PairStands ps t qs t' (left_on k n split)
-  left-pair said g = with-stands o.pair-stands k (record { stands = left-half; row-good = is-so said g })
+  left-pair said g = with-stands o.pair-stands k (record { stands = left-half; row-good = is-good said g })
 
   pub right-pair : {g : Bool} → g ≡ good_at points table right_node → not g ≡ false
       → PairStands ps t qs t' (right_on k n split)
-  right-pair said g = with-stands o.pair-stands k (record { stands = right-half; row-good = is-so said g })
+  right-pair said g = with-stands o.pair-stands k (record { stands = right-half; row-good = is-good said g })
 
   -- ---------------- what is handed back, by how far the halves were walked
   module _ {counted : Tally} where
@@ -202,12 +200,6 @@ module _ {k : Side} {ps t qs t' : List ℤ} {n : Pair} {split : ℕ} (o : Halved
     left-bad said g is y made f e =
         bad-left-on left-half (level_of o.pair-stands y f e) made o.visit (some_level left-fewer e) k is
         (bad-on o.pair-stands k left_node (sym said ∙ not-true _ g))
-
-    pub split_off : {ending : ℕ} {g : Bool} → g ≡ on_sheet (point points split) → not g ≡ true
-        → ending ≡ due (next counted) (bad_on k + left_node.row) → WalksOn ps t qs t' n counted ending
-    split_off said g is =
-        let off = end-off points (row_at table left_node.row) left_node.first split (sym said ∙ not-true _ g) in
-        left-bad {g = false} (sym off) refl is
 
     pub left-stopped : (left : ℕ) → Walks ps t qs t' (left_on k n split) counted left
         → {q : Bool} → q ≡ leb ENDED (end_in left) → q ≡ true → WalksOn ps t qs t' n counted left

@@ -1,20 +1,29 @@
 // The walk of MEET from a pair of nodes on. Of a pair only one row is new, so a row is checked before the walk goes to
 // it. `walk` takes the rows of a pair, which are good, and comes to what the written walk of `rules` comes to from
 // there; `open` goes on from a pair whose visit was made and halves a node.
-ghost use Rattle.std.specs.Prelude.{◌≡◌};
+ghost use Rattle.std.specs.Prelude.{◌≡◌, T};
+ghost use Rattle.rules.specs.Sheet.{point, on_sheet};
 ghost use Rattle.row.specs.Stands.{Stands, EndsOn, node_at};
 ghost use Rattle.meet_visit.specs.Pairs.{good_at, PairStands, pair_in};
 ghost use Rattle.meet_visit.specs.Sides.{side_a, side_b};
 ghost use Rattle.meet_walk.specs.Walks.{HalvedOn, Opens, Walks, WalksOn};
 
 use ending::{ENDED, EVEN, SPENT, bad_row_due, bad_second_due, pack, stopped, tally_in};
-use line::on_sheet_at;
 use meet_visit::{FINISHES, PASSES, Step, open_larger, pack_rows, pair_at, visit};
-use row::{good_between, row_at};
+use row::{good_between, good_from, row_at};
 use rules::{Next, Pair, Tally};
 
-// Whether the row of a half is good, which begins and ends on the sheet.
-fn half_good(points: &[i64], table: &[i64], row: usize, first: usize, last: usize) -> bool
+// Whether the row of a left half is good: it begins where its parent begins, on the sheet.
+fn left_good(points: &[i64], table: &[i64], row: usize, first: usize, last: usize) -> bool
+    requires stands { Stands points.now table.now (node_at row first last) }
+    requires t { T (on_sheet (point points.now first)) }
+    ensures { result ≡ good_at points.now table.now (node_at row first last) }
+{
+    good_from(points, row_at(table, row), first, last)
+}
+
+// Whether the row of a right half is good: it begins and ends on the sheet.
+fn right_good(points: &[i64], table: &[i64], row: usize, first: usize, last: usize) -> bool
     requires stands { Stands points.now table.now (node_at row first last) }
     requires ends_on { EndsOn points.now (node_at row first last) }
     ensures { result ≡ good_at points.now table.now (node_at row first last) }
@@ -41,10 +50,7 @@ fn halve_a(
     let a = pair.a;
     let b = pair.b;
     let next_row = a.row + 1;
-    if !on_sheet_at(*points_a, split) {
-        return bad_row_due(counted, next_row);
-    }
-    if !half_good(*points_a, *table_a, next_row, a.first, split) {
+    if !left_good(*points_a, *table_a, next_row, a.first, split) {
         return bad_row_due(counted, next_row);
     }
     let left_rows = pack_rows(next_row, b.row);
@@ -54,7 +60,7 @@ fn halve_a(
     }
     let right = a.row + 2 * (split - a.first);
     let next = tally_in(counted.allowance, left);
-    if !half_good(*points_a, *table_a, right, split, a.last) {
+    if !right_good(*points_a, *table_a, right, split, a.last) {
         return bad_row_due(next, right);
     }
     let right_rows = pack_rows(right, b.row);
@@ -80,10 +86,7 @@ fn halve_b(
     let a = pair.a;
     let b = pair.b;
     let next_row = b.row + 1;
-    if !on_sheet_at(*points_b, split) {
-        return bad_second_due(counted, next_row);
-    }
-    if !half_good(*points_b, *table_b, next_row, b.first, split) {
+    if !left_good(*points_b, *table_b, next_row, b.first, split) {
         return bad_second_due(counted, next_row);
     }
     let left_rows = pack_rows(a.row, next_row);
@@ -93,7 +96,7 @@ fn halve_b(
     }
     let right = b.row + 2 * (split - b.first);
     let next = tally_in(counted.allowance, left);
-    if !half_good(*points_b, *table_b, right, split, b.last) {
+    if !right_good(*points_b, *table_b, right, split, b.last) {
         return bad_second_due(next, right);
     }
     let right_rows = pack_rows(a.row, right);

@@ -12,7 +12,7 @@ use Rattle.rules.specs.declared.Point.{Point}
 use Rattle.rules.specs.declared.Row.{Row}
 use Rattle.rules.specs.Plain.{within}
 use Rattle.rules.specs.Tree.{row_at}
-use Rattle.rules.specs.Rows.{range_good, strip_good, box_good, longest_good, good}
+use Rattle.rules.specs.Rows.{range_good, strip_good, box_good, good}
 use Rattle.rules.specs.Walk.{refuse, finish, pass, halve}
 use Rattle.rules.specs.Questions.{Nothing, leaf, split_in, left_of, right_of, start_of, end_of, heading_of}
 use Rattle.rules.specs.Questions.{far_from, near_visit}
@@ -28,9 +28,8 @@ use Rattle.near_visit.specs.declared.Step.TheVariants.{Bad}
 -- the strip of a good frame holds its start
 pub holds-start : (r : Row) (first last : ℕ) → frame_good r first last ≡ true → HoldsStart r
 holds-start r first last e =
-    let f = and_yes (range_good r first last) (strip_good r && box_good r && longest_good r) (T_true e) in
-    let two = and_yes (strip_good r && box_good r) (longest_good r) f.1 in
-    strip-read r (and_yes (strip_good r) (box_good r) two.0).0
+    let f = and_yes (range_good r first last) (strip_good r && box_good r) (T_true e) in
+    strip-read r (and_yes (strip_good r) (box_good r) f.1).0
 
 module _ (ps t : List ℤ) (z : Point) (n : Node) where
   abbrev row : Row

@@ -2,9 +2,7 @@
 -- any reply that checks come before.
 use mathlib.Core.Path.{◌≡◌, refl, sym, ◌∙◌, ap, subst}
 use mathlib.Core.Bool.{Bool, true, cond, ◌&&◌}
-use mathlib.Core.List.Memᴰ.{head}
-use mathlib.Core.List.Memᴰ.{tail}
-use mathlib.Core.List.{List, [], ◌∷◌, map, Memᴰ as In}
+use mathlib.Core.List.{List, [], ◌∷◌}
 use mathlib.Core.Logic.{◌↔◌, ◌≢◌}
 use mathlib.Core.Option.{Option, none, some}
 use Prim.Native.Nat.{ℕ, zero, suc, ◌≤◌, ◌<◌}
@@ -82,14 +80,6 @@ first_below k (c ∷ cs) f h e =
     test-ind (λ b. cond b (some (early c)) (first_refusal cs) ≡ some f → f.number < k) c.holds
     (λ _ q. let s : early c ≡ f = cc in subst (λ (g : Refusal). g.number < k) s (ltb→lt _ _ p.0))
     (λ _. first_below k cs f p.1) e
-
--- and it is one of theirs
-pub first-number : (cs : List Check) (f : Refusal) → first_refusal cs ≡ some f → In f.number (map (λ c. c.number) cs)
-first-number [] f e = never (cc)
-first-number (c ∷ cs) f e =
-    test-ind (λ b. cond b (some (early c)) (first_refusal cs) ≡ some f → In f.number (map (λ c. c.number) (c ∷ cs)))
-    c.holds (λ _ q. let s : early c ≡ f = cc in head (ap (λ (g : Refusal). g.number) (sym s)))
-    (λ _ q. tail (first-number cs f q)) e
 
 -- a reply has no number above k where its checks' are below k and what comes after them has none above k
 pub number-last : (k : ℕ) (cs : List Check) (r : Reply) → T (below k cs)

@@ -43,7 +43,7 @@ use Rattle.refusals.proofs.Sees.{first-bad, bad-refused, Counts, walk-counts}
 -- ---------------- one visit
 
 -- a row is read first, and refused where it is bad
-pub read : {S N : Type 0} {Come : N → Type 0} {Good : Type 0} {Bad : Line → ℕ → Type 0} {v : Visit S N}
+read : {S N : Type 0} {Come : N → Type 0} {Good : Type 0} {Bad : Line → ℕ → Type 0} {v : Visit S N}
     (l : Line) (ps t : List ℤ) (n : Node) → (¬ RowGood ps t n → Bad l n.row)
     → (RowGood ps t n → Sees Come Good Bad v) → Sees Come Good Bad (read_row l ps t n (λ _. v))
 read l ps t n b g =

@@ -19,7 +19,7 @@ use Rattle.refusals.proofs.Sees.{each-come}
 use Rattle.refusals.proofs.Questions.{near-visits, in-visits, meet-visits}
 use Rattle.refusals.proofs.Questions.{near-question, in-question, meet-question, visits-counted}
 
-pub each_map : {N : Type 0} {P Q : N → Type 0} → ((n : N) → P n → Q n) → (ns : List N) → Each P ns → Each Q ns
+each_map : {N : Type 0} {P Q : N → Type 0} → ((n : N) → P n → Q n) → (ns : List N) → Each P ns → Each Q ns
 each_map f [] h = tt
 each_map f (n ∷ ns) h = (f n h.0, each_map f ns h.1)
 

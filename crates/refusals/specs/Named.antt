@@ -1,26 +1,22 @@
 -- What a 10 names: the first row that is visited and bad for the range handed down to it. What AGREE's 8 names: the
--- first point that is asked and off the sheet. When LONGER's 24 comes.
+-- first point that is asked and off the sheet.
 use Rattle.std.specs.Prelude.{◌≡◌, true, false, List, [], ◌∷◌, ◌++◌, ◌⊎◌, ◌≢◌, ℕ, ◌+◌, ◌<◌, ℤ, length}
 use Rattle.std.proofs.Math.Option.{none}
 use Rattle.rules.specs.declared.Line.{Line}
 use Rattle.rules.specs.declared.Line.TheVariants.{NoLine, LineA, LineB}
-use Rattle.rules.specs.declared.Listed.{Listed}
-use Rattle.rules.specs.declared.Listed.TheVariants as listed
 use Rattle.rules.specs.declared.Node.{Node}
 use Rattle.rules.specs.declared.Pair.{Pair}
 use Rattle.rules.specs.declared.Point.{Point}
 use Rattle.rules.specs.declared.Refusal.{Refusal}
 use Rattle.rules.specs.declared.Tally.{Tally}
-use Rattle.rules.specs.Sheet.{point, points_of, segments_of, on_sheet}
-use Rattle.rules.specs.Tree.{row_count}
+use Rattle.rules.specs.Sheet.{point, points_of, on_sheet}
 use Rattle.rules.specs.declared.Word.TheVariants.{UNDECIDED}
 use Rattle.rules.specs.declared.Reply.{Reply}
 use Rattle.rules.specs.Reply.{Check, first_refusal}
-use Rattle.rules.specs.Walk.{over, fresh}
+use Rattle.rules.specs.Walk.{fresh}
 use Rattle.rules.specs.Questions.{all_near, ask_all, on_all_near, agree_checks}
-use Rattle.rules.specs.Longer.{longer_walk, longer_checks}
 use Rattle.visits.specs.Nodes.{RowGood}
-use Rattle.refusals.specs.Trace.{near_visited, meet_visited, in_visited, longer_visited, Each}
+use Rattle.refusals.specs.Trace.{near_visited, meet_visited, in_visited, Each}
 
 -- ---- of the nodes that are visited from tally y on, the last one is bad, at the reply's line and place, and each
 -- earlier one is good; the visits are those made
@@ -54,24 +50,6 @@ InBad ps t z y r = FirstBad (RowGood ps t) (RowBad LineA ps t) (in_visited ps t 
 
 abbrev pub MeetBad : List ℤ → List ℤ → List ℤ → List ℤ → Tally → Reply → Type 0
 MeetBad ps t qs t' y r = FirstBad (PairGood ps t qs t') (PairBad ps t qs t') (meet_visited ps t qs t' y) y r
-
--- of LONGER
-abbrev pub LongerBad : List ℤ → List ℤ → ℤ → Reply → Type 0
-LongerBad ps t L r =
-    FirstBad (RowGood ps t) (RowBad LineA ps t) (longer_visited ps t L) (fresh (row_count (segments_of ps))) r
-
--- ---- LONGER: what it is refused with; number 0, with the visits made, where it is not
-abbrev pub refusal_in : Listed → Refusal
-refusal_in (listed.Entries count visits) = record { number = 0; line = NoLine; place = 0; visits = visits }
-refusal_in (listed.Refused f) = f
-
--- no check refuses, the walk is over, and the list has fewer numbers than there are entries
-pub record TooMany (ps t : List ℤ) (L : ℤ) (list : List ℤ) : Type 0 where
-  pub unrefused : first_refusal (longer_checks ps t L) ≡ none
-  pub entries : List ℕ
-  pub tally : Tally
-  pub came : longer_walk ps t L ≡ over entries tally
-  pub fewer : length list < length entries
 
 -- ---- a question that no check refuses, and that is decided, tells as many visits as nodes are visited
 abbrev pub Counted : {N : Type 0} → List Check → Reply → List N → Type 0

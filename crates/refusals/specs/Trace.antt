@@ -8,10 +8,8 @@ use Rattle.rules.specs.declared.Pair.{Pair}
 use Rattle.rules.specs.declared.Point.{Point}
 use Rattle.rules.specs.declared.Tally.{Tally}
 use Rattle.rules.specs.Sheet.{segments_of}
-use Rattle.rules.specs.Tree.{row_count}
-use Rattle.rules.specs.Walk.{next, Visit, refuse, finish, pass, halve, Walked, ended, over, spent, refused, fresh, walk}
+use Rattle.rules.specs.Walk.{next, Visit, refuse, finish, pass, halve, Walked, ended, over, spent, refused, walk}
 use Rattle.rules.specs.Questions.{root, near_visit, meet_visit, in_visit}
-use Rattle.rules.specs.Longer.{longer_visit}
 
 -- none where a visit is due and none is left
 abbrev pub nodes_left : {N : Type 0} → Next → (Tally → List N) → List N
@@ -51,10 +49,6 @@ in_visited ps t z y = visits_of (in_visit ps t z) (segments_of ps) (root ps) fal
 abbrev pub meet_visited : List ℤ → List ℤ → List ℤ → List ℤ → Tally → List Pair
 meet_visited ps t qs t' y =
     visits_of (meet_visit ps t qs t') (segments_of ps + segments_of qs) (record { a = root ps; b = root qs }) tt y
-
--- those of LONGER, which has as many visits as suffice
-abbrev pub longer_visited : List ℤ → List ℤ → ℤ → List Node
-longer_visited ps t L = visits_of (longer_visit ps t L) (segments_of ps) (root ps) [] (fresh (row_count (segments_of ps)))
 
 -- each of a list has P
 abbrev pub Each : {N : Type 0} → (N → Type 0) → List N → Type 0

@@ -10,7 +10,7 @@ use Rattle.rules.specs.declared.Row.{Row}
 use Rattle.rules.specs.Plane.{eq_z, same_point}
 use Rattle.rules.specs.Sheet.{point, on_sheet}
 use Rattle.rules.specs.Tree.{no_split, is_leaf}
-use Rattle.rules.specs.Rows.{range_good, strip_good, box_good, longest_good, ends_good, good}
+use Rattle.rules.specs.Rows.{range_good, strip_good, box_good, ends_good, good}
 use Rattle.row.specs.Parts.{frame_good, leaf_fits, split_fits}
 
 -- what is asked of a leaf, and of a node of more segments
@@ -22,28 +22,25 @@ pub good-parts : (ps : List ℤ) (r : Row) (first last : ℕ) →
     good ps r first last
     ≡ range_good r first last
     && (strip_good r
-    && (box_good r
-    && (longest_good r && (on_sheet (point ps first) && (on_sheet (point ps last) && last_rule ps r first last)))))
+    && (box_good r && (on_sheet (point ps first) && (on_sheet (point ps last) && last_rule ps r first last))))
 unfolding good
 good-parts ps r first last =
     regroup (is_leaf first last) (range_good r first last) (eq_z r.split no_split) (split_fits r first last) (strip_good r)
-    (box_good r) (longest_good r) (on_sheet (point ps first)) (on_sheet (point ps last))
-    (same_point (point ps first) (point ps last))
+    (box_good r) (on_sheet (point ps first)) (on_sheet (point ps last)) (same_point (point ps first) (point ps last))
   where
-    regroup : (leaf a none inside b c l d e same : Bool) →
-        a && cond leaf none inside && b && c && l && (d && e) && not (leaf && same)
-        ≡ a && (b && (c && (l && (d && (e && cond leaf (none && not same) inside)))))
-    regroup true a true inside b c l d e same = simp (and_assoc, and-true)
-    regroup true a false inside b c l d e same = simp (and_assoc, and-false)
-    regroup false a none true b c l d e same = simp (and_assoc, and-true)
-    regroup false a none false b c l d e same = simp (and_assoc, and-false)
+    regroup : (leaf a none inside b c d e same : Bool) →
+        a && cond leaf none inside && b && c && (d && e) && not (leaf && same)
+        ≡ a && (b && (c && (d && (e && cond leaf (none && not same) inside))))
+    regroup true a true inside b c d e same = simp (and_assoc, and-true)
+    regroup true a false inside b c d e same = simp (and_assoc, and-false)
+    regroup false a none true b c d e same = simp (and_assoc, and-true)
+    regroup false a none false b c d e same = simp (and_assoc, and-false)
 
 -- a node that begins or ends off the sheet has no good row; of one that does neither, frame and last rule are asked
 module _ (ps : List ℤ) (r : Row) (first last : ℕ) where
   abbrev asked : Bool → Bool → Bool
   asked start end =
-      range_good r first last
-      && (strip_good r && (box_good r && (longest_good r && (start && (end && last_rule ps r first last)))))
+      range_good r first last && (strip_good r && (box_good r && (start && (end && last_rule ps r first last))))
 
   pub start-off : on_sheet (point ps first) ≡ false → good ps r first last ≡ false
   start-off e = good-parts ps r first last ∙ (λ i. asked (e i) (on_sheet (point ps last))) ∙ simp and-false

@@ -5,12 +5,11 @@ use Rattle.rules.specs.declared.Point.{Point}
 use Rattle.rules.specs.declared.Row.{Row}
 use Rattle.rules.specs.Plane.{eq_z, same_point}
 use Rattle.rules.specs.Tree.{no_split}
-use Rattle.rules.specs.Rows.{range_good, strip_good, box_good, longest_good}
+use Rattle.rules.specs.Rows.{range_good, strip_good, box_good}
 
--- those that ask for no point: the range handed down, a strip that holds the start, a box on the sheet, a longest of 1
--- or more
+-- those that ask for no point: the range handed down, a strip that holds the start, a box on the sheet
 abbrev pub frame_good : Row → ℕ → ℕ → Bool
-frame_good r first last = range_good r first last && (strip_good r && box_good r && longest_good r)
+frame_good r first last = range_good r first last && (strip_good r && box_good r)
 
 -- a leaf from a to b has no split, and its two points differ
 abbrev pub leaf_fits : Row → Point → Point → Bool

@@ -4,7 +4,7 @@ ghost use Rattle.std.specs.Prelude.{◌≡◌, ◌&&◌, ◌+◌, ◌*◌, ◌<�
 ghost use Rattle.std.specs.Int.Signed.{le_z};
 ghost use Rattle.rules.specs.Tree.{width, number_at, row_at};
 ghost use Rattle.rules.specs.Sheet.{fewest, most, point, points_of, segments_of, on_sheet};
-ghost use Rattle.rules.specs.Rows.{range_good, strip_good, side_good, box_good, longest_good, ends_good, good};
+ghost use Rattle.rules.specs.Rows.{range_good, strip_good, side_good, box_good, ends_good, good};
 ghost use Rattle.rules.specs.Questions.{split_in};
 ghost use Rattle.row.specs.Parts.{frame_good, leaf_fits, split_fits};
 
@@ -37,7 +37,6 @@ pub fn row_at(table: &[i64], r: usize) -> Row
         xmax: number_at(table, r, column::XMAX),
         ymin: number_at(table, r, column::YMIN),
         ymax: number_at(table, r, column::YMAX),
-        longest: number_at(table, r, column::LONGEST),
     }
 }
 
@@ -56,23 +55,17 @@ pub fn splits_inside(r: Row, first: usize, last: usize) -> bool
     (first as i64) < r.split && r.split < last as i64
 }
 
-fn neither_above_zero(a: i64, b: i64) -> bool
-    ensures { result ≡ le_z a (pos 0) && le_z b (pos 0) }
+// Whether the range lo to hi holds 0.
+fn holds_zero(lo: i64, hi: i64) -> bool
+    ensures { result ≡ le_z lo (pos 0) && le_z (pos 0) hi }
 {
-    (a <= 0) & (b <= 0)
+    (lo <= 0) & (0 <= hi)
 }
 
-fn neither_below_zero(a: i64, b: i64) -> bool
-    ensures { result ≡ le_z (pos 0) a && le_z (pos 0) b }
-{
-    (0 <= a) & (0 <= b)
-}
-
-// The low ends are asked together and the high ends are: two signs are one test of the machine.
 fn strip_good(r: Row) -> bool
     ensures { result ≡ strip_good r }
 {
-    neither_above_zero(r.cmin, r.tmin) & neither_below_zero(r.cmax, r.tmax)
+    holds_zero(r.cmin, r.cmax) & holds_zero(r.tmin, r.tmax)
 }
 
 fn side_good(lo: i64, hi: i64) -> bool
@@ -87,14 +80,7 @@ fn box_good(r: Row) -> bool
     side_good(r.xmin, r.xmax) & side_good(r.ymin, r.ymax)
 }
 
-fn longest_good(r: Row) -> bool
-    ensures { result ≡ longest_good r }
-{
-    0 < r.longest
-}
-
-// The rules that ask for no point: the range handed down, a strip that holds the start, a box on the sheet, a longest
-// of 1 or more.
+// The rules that ask for no point: the range handed down, a strip that holds the start, a box on the sheet.
 pub fn frame_good(r: Row, first: usize, last: usize) -> bool
     requires { (first < last) × (last < most) }
     ensures { result ≡ frame_good r first last }
@@ -102,7 +88,7 @@ pub fn frame_good(r: Row, first: usize, last: usize) -> bool
     if !range_good(r, first, last) {
         return false;
     }
-    strip_good(r) & box_good(r) & longest_good(r)
+    strip_good(r) & box_good(r)
 }
 
 // A leaf has no split, and its two points differ.

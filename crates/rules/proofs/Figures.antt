@@ -9,13 +9,11 @@ use Prim.Native.Nat.{ℕ, ◌+◌, ◌*◌}
 use lib.IntN.{ℤ, pos, negsuc}
 use lib.ListN.{set, replicate, take}
 use Rattle.rules.specs.declared.Line.TheVariants.{NoLine, LineA, LineB}
-use Rattle.rules.specs.declared.Listed.{Listed}
-use Rattle.rules.specs.declared.Listed.TheVariants as listed
 use Rattle.rules.specs.declared.Point.{Point}
 use Rattle.rules.specs.declared.Refusal.{Refusal}
 use Rattle.rules.specs.Plane.{direction}
-use Rattle.rules.specs.Sheet.{limit, between}
-use Rattle.rules.specs.Tree.{least, greatest, longest_in, height, better, best, split_of, row_at, measured, rows_of}
+use Rattle.rules.specs.Sheet.{between}
+use Rattle.rules.specs.Tree.{least, greatest, height, better, best, split_of, row_at, measured, rows_of}
 use Rattle.rules.specs.Plain.{within, share, on_segment, crosses, joined, plain_near}
 use Rattle.rules.specs.Plain.{plain_inside, plain_agree}
 use Rattle.rules.specs.declared.Word.TheVariants.{YES, NO, INSIDE, OUTSIDE, ON, UNDECIDED}
@@ -25,10 +23,8 @@ use Rattle.rules.specs.Walk.{walk}
 use Rattle.rules.specs.Rows.{good}
 use Rattle.rules.specs.Questions.{shortfall, far_from, near_visit, near_reply, beyond_corners, apart, meet_visit}
 use Rattle.rules.specs.Questions.{meet_reply, clear_of, in_visit, in_reply, ask_all, agree_walk, agree_reply}
-use Rattle.rules.specs.Build.{lowest, build_refusal, table_of, built_table, holds_point, row_holds, row_right}
-use Rattle.rules.specs.Old.{old_limit, old_rows, old_refusal, old_table, widened, widen_refusal}
-use Rattle.rules.specs.Complete.{old_row_at, completed_rows, complete_refusal, completed}
-use Rattle.rules.specs.Longer.{those_of, plain_longer, longer_visit, longer_reply, longer_list}
+use Rattle.rules.specs.Build.{lowest, build_refusal, table_of, built_table, holds_point, row_holds}
+use Rattle.rules.specs.Old.{old_refusal, old_table, widened, widen_refusal}
 use Rattle.rules.specs.Check.{row_fault, fault_from, table_fault, check_refusal}
 
 abbrev at : ℕ → ℕ → Point
@@ -60,9 +56,9 @@ ring z = in_reply S (table_of S) z 99
 
 pub P1-to-P12 :
     (table_of L
-    ≡ pos 0 ∷ pos 2 ∷ pos 1 ∷ pos 0 ∷ pos 24 ∷ pos 0 ∷ pos 64 ∷ pos 0 ∷ pos 8 ∷ pos 0 ∷ pos 3 ∷ pos 25
-    ∷ pos 0 ∷ pos 1 ∷ negsuc 0 ∷ pos 0 ∷ pos 0 ∷ pos 0 ∷ pos 25 ∷ pos 0 ∷ pos 4 ∷ pos 0 ∷ pos 3 ∷ pos 25
-    ∷ pos 1 ∷ pos 2 ∷ negsuc 0 ∷ pos 0 ∷ pos 0 ∷ pos 0 ∷ pos 25 ∷ pos 4 ∷ pos 8 ∷ pos 0 ∷ pos 3 ∷ pos 25 ∷ [])  -- P1
+    ≡ pos 0 ∷ pos 2 ∷ pos 1 ∷ pos 0 ∷ pos 24 ∷ pos 0 ∷ pos 64 ∷ pos 0 ∷ pos 8 ∷ pos 0 ∷ pos 3
+    ∷ pos 0 ∷ pos 1 ∷ negsuc 0 ∷ pos 0 ∷ pos 0 ∷ pos 0 ∷ pos 25 ∷ pos 0 ∷ pos 4 ∷ pos 0 ∷ pos 3
+    ∷ pos 1 ∷ pos 2 ∷ negsuc 0 ∷ pos 0 ∷ pos 0 ∷ pos 0 ∷ pos 25 ∷ pos 4 ∷ pos 8 ∷ pos 0 ∷ pos 3 ∷ [])  -- P1
     × (near (at 4 5) 2 99 ≡ says YES 2)  -- P2
     × (near (at 4 5) 1 99 ≡ says NO 1)  -- P3
     × (near (at 4 5) 2 1 ≡ says UNDECIDED 1)  -- P4
@@ -75,9 +71,9 @@ pub P1-to-P12 :
     × (ring (at 4 2) ≡ says ON 4)  -- P10
     × (ring (at 5 2) ≡ says OUTSIDE 1)  -- P11
     × (ring (at 3 1) ≡ says INSIDE 5)  -- P12
-unfolding table_of rows_of measured longest_in split_of best better height least greatest row_at direction between within
-    share on_segment crosses walk good shortfall far_from near_visit near_reply beyond_corners apart meet_visit meet_reply
-    clear_of in_visit in_reply
+unfolding table_of rows_of measured split_of best better height least greatest row_at direction between within share
+    on_segment crosses walk good shortfall far_from near_visit near_reply beyond_corners apart meet_visit meet_reply clear_of
+    in_visit in_reply
 P1-to-P12 = (refl, refl, refl, refl, refl, refl, refl, refl, refl, refl, refl, refl, refl)
 
 -- ---- slips that look right, and that P1 to P12 do not reach
@@ -86,8 +82,8 @@ abbrev R : List ℤ
 R = pos 4 ∷ pos 0 ∷ pos 8 ∷ pos 4 ∷ pos 4 ∷ pos 8 ∷ pos 0 ∷ pos 4 ∷ pos 4 ∷ pos 0 ∷ []
 
 pub corner-counts-once : (plain_inside R (at 4 4) ≡ true) × ((in_reply R (table_of R) (at 4 4) 99).word ≡ INSIDE)
-unfolding table_of rows_of measured longest_in split_of best better height least greatest row_at direction between on_segment
-    crosses joined walk good clear_of in_visit in_reply plain_inside
+unfolding table_of rows_of measured split_of best better height least greatest row_at direction between on_segment crosses
+    joined walk good clear_of in_visit in_reply plain_inside
 corner-counts-once = (refl, refl)
 
 -- agreement is asked both ways: a stub does not agree with a long line, though each of its points is on it
@@ -101,8 +97,8 @@ pub stub-disagrees :
     (plain_agree stub long (pos 2) ≡ false)
     × (agree_reply stub (table_of stub) long (table_of long) (pos 2) 99 ≡ disagrees LineB 1 4)
     × (plain_agree long stub (pos 2) ≡ false)
-unfolding table_of rows_of measured longest_in split_of best better height least greatest row_at direction between within
-    joined walk good shortfall far_from near_visit ask_all agree_walk agree_reply plain_near plain_agree
+unfolding table_of rows_of measured split_of best better height least greatest row_at direction between within joined
+    walk good shortfall far_from near_visit ask_all agree_walk agree_reply plain_near plain_agree
 stub-disagrees = (refl, refl, refl)
 
 -- c is compared as it is: 4^2 > 1^2 * 10, though 16 / 10 is 1
@@ -124,27 +120,27 @@ T = pos 1 ∷ pos 1 ∷ pos 6 ∷ pos 3 ∷ pos 3 ∷ pos 4 ∷ pos 1 ∷ pos 1 
 
 pub closed-run-heads-along-x :
     (table_of T
-    ≡ pos 0 ∷ pos 3 ∷ pos 2 ∷ pos 0 ∷ pos 3 ∷ pos 0 ∷ pos 5 ∷ pos 1 ∷ pos 6 ∷ pos 1 ∷ pos 4 ∷ pos 29
-    ∷ pos 0 ∷ pos 2 ∷ pos 1 ∷ negsuc 10 ∷ pos 0 ∷ pos 0 ∷ pos 16 ∷ pos 1 ∷ pos 6 ∷ pos 1 ∷ pos 4 ∷ pos 29
-    ∷ pos 0 ∷ pos 1 ∷ negsuc 0 ∷ pos 0 ∷ pos 0 ∷ pos 0 ∷ pos 29 ∷ pos 1 ∷ pos 6 ∷ pos 1 ∷ pos 3 ∷ pos 29
-    ∷ pos 1 ∷ pos 2 ∷ negsuc 0 ∷ pos 0 ∷ pos 0 ∷ pos 0 ∷ pos 10 ∷ pos 3 ∷ pos 6 ∷ pos 3 ∷ pos 4 ∷ pos 10
-    ∷ pos 2 ∷ pos 3 ∷ negsuc 0 ∷ pos 0 ∷ pos 0 ∷ pos 0 ∷ pos 13 ∷ pos 1 ∷ pos 3 ∷ pos 1 ∷ pos 4 ∷ pos 13 ∷ [])
+    ≡ pos 0 ∷ pos 3 ∷ pos 2 ∷ pos 0 ∷ pos 3 ∷ pos 0 ∷ pos 5 ∷ pos 1 ∷ pos 6 ∷ pos 1 ∷ pos 4
+    ∷ pos 0 ∷ pos 2 ∷ pos 1 ∷ negsuc 10 ∷ pos 0 ∷ pos 0 ∷ pos 16 ∷ pos 1 ∷ pos 6 ∷ pos 1 ∷ pos 4
+    ∷ pos 0 ∷ pos 1 ∷ negsuc 0 ∷ pos 0 ∷ pos 0 ∷ pos 0 ∷ pos 29 ∷ pos 1 ∷ pos 6 ∷ pos 1 ∷ pos 3
+    ∷ pos 1 ∷ pos 2 ∷ negsuc 0 ∷ pos 0 ∷ pos 0 ∷ pos 0 ∷ pos 10 ∷ pos 3 ∷ pos 6 ∷ pos 3 ∷ pos 4
+    ∷ pos 2 ∷ pos 3 ∷ negsuc 0 ∷ pos 0 ∷ pos 0 ∷ pos 0 ∷ pos 13 ∷ pos 1 ∷ pos 3 ∷ pos 1 ∷ pos 4 ∷ [])
     × (in_reply T (table_of T) (at 5 2) 99 ≡ says OUTSIDE 5)
-unfolding table_of rows_of measured longest_in split_of best better height least greatest row_at direction between on_segment
-    crosses walk good clear_of in_visit in_reply
+unfolding table_of rows_of measured split_of best better height least greatest row_at direction between on_segment crosses
+    walk good clear_of in_visit in_reply
 closed-run-heads-along-x = (refl, refl)
 
 -- building writes the rows of the line and leaves what stands past them; refused, for a table one number short, it
 -- writes nothing
-abbrev sevens : ℕ → List ℤ
-sevens k = replicate k (pos 7)
+abbrev ten : List ℤ
+ten = pos 7 ∷ pos 7 ∷ pos 7 ∷ pos 7 ∷ pos 7 ∷ pos 7 ∷ pos 7 ∷ pos 7 ∷ pos 7 ∷ pos 7 ∷ []
 
 pub builds-all-or-nothing :
-    (built_table N (sevens 13)
-    ≡ pos 0 ∷ pos 1 ∷ negsuc 0 ∷ pos 0 ∷ pos 0 ∷ pos 0 ∷ pos 9 ∷ pos 4 ∷ pos 4 ∷ pos 0 ∷ pos 3 ∷ pos 9 ∷ pos 7 ∷ [])
-    × (built_table N (sevens 11) ≡ sevens 11)
-unfolding built_table build_refusal lowest table_of rows_of measured longest_in split_of best better height least greatest
-    direction between
+    (built_table N (pos 7 ∷ pos 7 ∷ ten)
+    ≡ pos 0 ∷ pos 1 ∷ negsuc 0 ∷ pos 0 ∷ pos 0 ∷ pos 0 ∷ pos 9 ∷ pos 4 ∷ pos 4 ∷ pos 0 ∷ pos 3 ∷ pos 7 ∷ [])
+    × (built_table N ten ≡ ten)
+unfolding built_table build_refusal lowest table_of rows_of measured split_of best better height least greatest direction
+    between
 builds-all-or-nothing = (refl, refl)
 
 -- ---- the sheet of 125 km: its diagonal, asked from another corner; and the limits
@@ -163,17 +159,17 @@ refused_as number = refuses (record { number = number; line = NoLine; place = 0;
 pub at-the-limits :
     (table_of diagonal
     ≡ pos 0 ∷ pos 1 ∷ negsuc 0 ∷ pos 0 ∷ pos 0 ∷ pos 0 ∷ pos 8000000000000 ∷ negsuc 999999 ∷ pos 1000000
-    ∷ negsuc 999999 ∷ pos 1000000 ∷ pos 8000000000000 ∷ [])
+    ∷ negsuc 999999 ∷ pos 1000000 ∷ [])
     × (across (pos 1414213) ≡ says NO 1)
     × (across (pos 1414214) ≡ says YES 1)
     × (across (pos 2000000) ≡ says YES 1)
     × (across (pos 2000001) ≡ refused_as 7)
     × (across (negsuc 0) ≡ refused_as 7)
     × (near_reply diagonal (table_of diagonal) (at 1000001 0) (pos 0) 99 ≡ refused_as 8)
-    × (build_refusal (east_to 1000000) (sevens 12) ≡ none)
-    × (build_refusal (east_to 1000001) (sevens 12) ≡ some (record { number = 4; line = LineA; place = 1; visits = 0 }))
-unfolding table_of rows_of measured longest_in split_of best better height least greatest row_at direction between within
-    walk good shortfall far_from near_visit near_reply build_refusal lowest
+    × (build_refusal (east_to 1000000) (pos 7 ∷ ten) ≡ none)
+    × (build_refusal (east_to 1000001) (pos 7 ∷ ten) ≡ some (record { number = 4; line = LineA; place = 1; visits = 0 }))
+unfolding table_of rows_of measured split_of best better height least greatest row_at direction between within walk good
+    shortfall far_from near_visit near_reply build_refusal lowest
 at-the-limits = (refl, refl, refl, refl, refl, refl, refl, refl, refl)
 
 -- a table of 64-bit numbers that no builder writes: L's, its root's cmin at -2^63
@@ -181,45 +177,38 @@ abbrev unbounded : List ℤ
 unbounded = set (table_of L) 3 (negsuc 9223372036854775807)
 
 pub any-number-in-a-row : near_reply L unbounded (record { x = pos 4; y = negsuc 8 }) (pos 1) 99 ≡ says NO 3
-unfolding table_of rows_of measured longest_in split_of best better height least greatest row_at direction between within
-    walk good shortfall far_from near_visit near_reply
+unfolding table_of rows_of measured split_of best better height least greatest row_at direction between within walk good
+    shortfall far_from near_visit near_reply
 any-number-in-a-row = refl
 
--- a refusal of line A
-abbrev at_row : ℕ → ℕ → Option Refusal
-at_row number place = some (record { number = number; line = LineA; place = place; visits = 0 })
-
--- the 33 numbers that L's table had, widened into 35 numbers that are all 7, and into 32
-abbrev old_l : List ℤ
-old_l = old_rows (table_of L) 3
-
+-- L's table, widened into 35 numbers that are all 5, and into 32
 pub widens-all-or-nothing :
-    (widened old_l (sevens 35) ≡ old_l ++ sevens 2)
-    × (widened old_l (sevens 32) ≡ sevens 32)
-    × (widen_refusal old_l (sevens 32) ≡ some (record { number = 6; line = NoLine; place = 0; visits = 0 }))
-unfolding table_of rows_of measured longest_in split_of best better height least greatest direction row_at old_rows widened
-    widen_refusal
+    (widened (table_of L) (replicate 35 (pos 5)) ≡ table_of L ++ pos 5 ∷ pos 5 ∷ [])
+    × (widened (table_of L) (replicate 32 (pos 5)) ≡ replicate 32 (pos 5))
+    × (widen_refusal (table_of L) (replicate 32 (pos 5))
+    ≡ some (record { number = 6; line = NoLine; place = 0; visits = 0 }))
+unfolding table_of rows_of measured split_of best better height least greatest direction widened widen_refusal
 widens-all-or-nothing = (refl, refl, refl)
 
--- the old sheet: what its builds took and refused, and a table that one wrote; its eleven numbers on the sheet of now
+-- the old sheet: what its builds took and refused, and a table that one wrote
 pub the-old-sheet :
-    (old_refusal old_limit (east_to 16383) (sevens 11) ≡ none)
-    × (old_table old_limit (east_to 16383) (sevens 12)
+    (old_refusal (east_to 16383) (pos 7 ∷ ten) ≡ none)
+    × (old_table (east_to 16383) (pos 7 ∷ pos 7 ∷ ten)
     ≡ pos 0 ∷ pos 1 ∷ negsuc 0 ∷ pos 0 ∷ pos 0 ∷ pos 0 ∷ pos 268402689 ∷ pos 0 ∷ pos 16383 ∷ pos 0 ∷ pos 0 ∷ pos 7 ∷ [])
-    × (old_refusal old_limit (east_to 16384) (sevens 11) ≡ at_row 4 1)
-    × (old_table old_limit (east_to 16384) (sevens 11) ≡ sevens 11)
-    × (old_refusal old_limit (east_to 16383) (sevens 10) ≡ at_row 6 0)
-    × (old_refusal limit (east_to 1000000) (sevens 11) ≡ none)
-unfolding old_refusal old_table old_rows row_at lowest table_of rows_of measured longest_in split_of best better height least
-    greatest direction between
-the-old-sheet = (refl, refl, refl, refl, refl, refl)
+    × (old_refusal (east_to 16384) (pos 7 ∷ ten) ≡ some (record { number = 4; line = LineA; place = 1; visits = 0 }))
+    × (old_table (east_to 16384) (pos 7 ∷ ten) ≡ pos 7 ∷ ten)
+unfolding old_refusal old_table lowest table_of rows_of measured split_of best better height least greatest direction between
+the-old-sheet = (refl, refl, refl, refl)
 
 -- ---- the checker: a number of L's table changed, by row and column
 abbrev changed : ℕ → ℕ → ℤ → List ℤ → List ℤ
-changed row column v t = set t (12 * row + column) v
+changed row column v t = set t (11 * row + column) v
 
 abbrev found_in : List ℤ → Option Refusal
 found_in t = check_refusal L t
+
+abbrev at_row : ℕ → ℕ → Option Refusal
+at_row number place = some (record { number = number; line = LineA; place = place; visits = 0 })
 
 pub the-checker :
     (found_in (table_of L) ≡ none)  -- as built
@@ -239,52 +228,23 @@ pub the-checker :
     × (found_in (changed 0 2 (pos 2) (changed 0 4 (pos 23) (table_of L))) ≡ at_row 21 0)
     × (found_in (changed 1 6 (pos 24) (changed 2 0 (pos 0) (table_of L))) ≡ at_row 22 1)
     × (found_in (changed 2 8 (pos 7) (table_of L)) ≡ at_row 22 2)
-    × (found_in (take 35 (table_of L)) ≡ at_row 6 0)  -- 1 to 6 come first
+    × (found_in (take 32 (table_of L)) ≡ at_row 6 0)  -- 1 to 6 come first
     × (check_refusal (pos 0 ∷ pos 0 ∷ pos 4 ∷ pos 3 ∷ pos 4 ∷ pos 3 ∷ []) [] ≡ at_row 5 1)
-    × (found_in (changed 1 11 (pos 26) (table_of L)) ≡ at_row 22 1)  -- the longest: exactly right, or at fault
-    × (found_in (changed 1 11 (pos 24) (table_of L)) ≡ at_row 22 1)
-    × (found_in (changed 1 11 (pos 0) (table_of L)) ≡ at_row 21 1)
-    × (near_reply L (changed 1 11 (pos 0) (table_of L)) (at 4 5) (pos 2) 99
-    ≡ refuses (record { number = 10; line = LineA; place = 1; visits = 2 }))
-unfolding table_of rows_of measured longest_in split_of best better height least greatest row_at direction between joined
-    good build_refusal lowest holds_point row_holds row_right row_fault fault_from table_fault check_refusal within walk
-    shortfall far_from near_visit near_reply
-the-checker = (
-  refl,
-  refl,
-  refl,
-  refl,
-  refl,
-  refl,
-  refl,
-  refl,
-  refl,
-  refl,
-  refl,
-  refl,
-  refl,
-  refl,
-  refl,
-  refl,
-  refl,
-  refl,
-  refl,
-  refl,
-  refl,
-  refl,
-  refl,
-)
+unfolding table_of rows_of measured split_of best better height least greatest row_at direction between joined good
+    build_refusal lowest holds_point row_holds row_fault fault_from table_fault check_refusal
+the-checker =
+    (refl, refl, refl, refl, refl, refl, refl, refl, refl, refl, refl, refl, refl, refl, refl, refl, refl, refl, refl)
 
 -- a table of S by other splits: at 1, then 2, then 3
 abbrev foreign : List ℤ
 foreign =
-    pos 0 ∷ pos 4 ∷ pos 1 ∷ pos 0 ∷ pos 4 ∷ pos 0 ∷ pos 4 ∷ pos 0 ∷ pos 4 ∷ pos 0 ∷ pos 4 ∷ pos 16
-    ∷ pos 0 ∷ pos 1 ∷ negsuc 0 ∷ pos 0 ∷ pos 0 ∷ pos 0 ∷ pos 16 ∷ pos 0 ∷ pos 4 ∷ pos 0 ∷ pos 0 ∷ pos 16
-    ∷ pos 1 ∷ pos 4 ∷ pos 2 ∷ negsuc 15 ∷ pos 0 ∷ pos 0 ∷ pos 16 ∷ pos 0 ∷ pos 4 ∷ pos 0 ∷ pos 4 ∷ pos 16
-    ∷ pos 1 ∷ pos 2 ∷ negsuc 0 ∷ pos 0 ∷ pos 0 ∷ pos 0 ∷ pos 16 ∷ pos 4 ∷ pos 4 ∷ pos 0 ∷ pos 4 ∷ pos 16
-    ∷ pos 2 ∷ pos 4 ∷ pos 3 ∷ negsuc 15 ∷ pos 0 ∷ pos 0 ∷ pos 32 ∷ pos 0 ∷ pos 4 ∷ pos 0 ∷ pos 4 ∷ pos 16
-    ∷ pos 2 ∷ pos 3 ∷ negsuc 0 ∷ pos 0 ∷ pos 0 ∷ pos 0 ∷ pos 16 ∷ pos 0 ∷ pos 4 ∷ pos 4 ∷ pos 4 ∷ pos 16
-    ∷ pos 3 ∷ pos 4 ∷ negsuc 0 ∷ pos 0 ∷ pos 0 ∷ pos 0 ∷ pos 16 ∷ pos 0 ∷ pos 0 ∷ pos 0 ∷ pos 4 ∷ pos 16 ∷ []
+    pos 0 ∷ pos 4 ∷ pos 1 ∷ pos 0 ∷ pos 4 ∷ pos 0 ∷ pos 4 ∷ pos 0 ∷ pos 4 ∷ pos 0 ∷ pos 4
+    ∷ pos 0 ∷ pos 1 ∷ negsuc 0 ∷ pos 0 ∷ pos 0 ∷ pos 0 ∷ pos 16 ∷ pos 0 ∷ pos 4 ∷ pos 0 ∷ pos 0
+    ∷ pos 1 ∷ pos 4 ∷ pos 2 ∷ negsuc 15 ∷ pos 0 ∷ pos 0 ∷ pos 16 ∷ pos 0 ∷ pos 4 ∷ pos 0 ∷ pos 4
+    ∷ pos 1 ∷ pos 2 ∷ negsuc 0 ∷ pos 0 ∷ pos 0 ∷ pos 0 ∷ pos 16 ∷ pos 4 ∷ pos 4 ∷ pos 0 ∷ pos 4
+    ∷ pos 2 ∷ pos 4 ∷ pos 3 ∷ negsuc 15 ∷ pos 0 ∷ pos 0 ∷ pos 32 ∷ pos 0 ∷ pos 4 ∷ pos 0 ∷ pos 4
+    ∷ pos 2 ∷ pos 3 ∷ negsuc 0 ∷ pos 0 ∷ pos 0 ∷ pos 0 ∷ pos 16 ∷ pos 0 ∷ pos 4 ∷ pos 4 ∷ pos 4
+    ∷ pos 3 ∷ pos 4 ∷ negsuc 0 ∷ pos 0 ∷ pos 0 ∷ pos 0 ∷ pos 16 ∷ pos 0 ∷ pos 0 ∷ pos 0 ∷ pos 4 ∷ []
 
 pub other-splits-are-accepted :
     (check_refusal S foreign ≡ none)
@@ -297,59 +257,7 @@ pub other-splits-are-accepted :
     × (in_reply S foreign (at 4 2) 99 ≡ says ON 4)
     × (check_refusal S (changed 2 3 (negsuc 14) foreign) ≡ at_row 22 2)
     × (check_refusal S (changed 0 2 (pos 2) foreign) ≡ at_row 21 1)
-unfolding table_of rows_of measured longest_in split_of best better height least greatest row_at direction between joined
-    good build_refusal lowest holds_point row_holds row_right row_fault fault_from table_fault check_refusal within walk
-    shortfall far_from near_visit near_reply on_segment crosses clear_of in_visit in_reply
+unfolding table_of rows_of measured split_of best better height least greatest row_at direction between joined good
+    build_refusal lowest holds_point row_holds row_fault fault_from table_fault check_refusal within walk shortfall far_from
+    near_visit near_reply on_segment crosses clear_of in_visit in_reply
 other-splits-are-accepted = (refl, refl, refl, refl, refl, refl, refl, refl, refl, refl)
-
--- ---- the longest of each row, and the segments that are longer than a length
--- Z is (0,0) (1,0) (1,9) (2,9) (2,0)
-abbrev Z : List ℤ
-Z = pos 0 ∷ pos 0 ∷ pos 1 ∷ pos 0 ∷ pos 1 ∷ pos 9 ∷ pos 2 ∷ pos 9 ∷ pos 2 ∷ pos 0 ∷ []
-
-abbrev longest_at : ℕ → ℤ
-longest_at r = (row_at (table_of Z) r).longest
-
-abbrev asked : List ℤ → List ℤ → ℤ → ℕ → Listed × List ℤ
-asked ps t far room = (longer_reply ps t far (sevens room), longer_list ps t far (sevens room))
-
-abbrev list_refused : ℕ → ℕ → ℕ → Listed × List ℤ
-list_refused number visits room =
-    (listed.Refused (record { number = number; line = NoLine; place = 0; visits = visits }), sevens room)
-
-pub the-longer-segments :
-    (longest_at 0 ∷ longest_at 1 ∷ longest_at 2 ∷ longest_at 3 ∷ longest_at 4 ∷ longest_at 5 ∷ longest_at 6 ∷ []
-    ≡ pos 81 ∷ pos 81 ∷ pos 1 ∷ pos 81 ∷ pos 81 ∷ pos 1 ∷ pos 81 ∷ [])
-    × (asked L (table_of L) (pos 4) 3 ≡ (listed.Entries 2 3, pos 0 ∷ pos 1 ∷ pos 7 ∷ []))
-    × (asked L (table_of L) (pos 5) 3 ≡ (listed.Entries 0 1, sevens 3))
-    × (asked L (table_of L) (pos 0) 3 ≡ (listed.Entries 2 3, pos 0 ∷ pos 1 ∷ pos 7 ∷ []))
-    × (asked L (table_of L) (pos 2000000) 0 ≡ (listed.Entries 0 1, []))
-    × (asked L (table_of L) (pos 4) 1 ≡ list_refused 24 3 1)
-    × (asked L (table_of L) (negsuc 0) 3 ≡ list_refused 7 0 3)
-    × (asked L (table_of L) (pos 2000001) 3 ≡ list_refused 7 0 3)
-    × (asked Z (table_of Z) (pos 5) 3 ≡ (listed.Entries 2 7, pos 1 ∷ pos 3 ∷ pos 7 ∷ []))
-    × (asked Z (table_of Z) (pos 9) 3 ≡ (listed.Entries 0 1, sevens 3))
-    × (plain_longer Z (pos 5) ≡ 1 ∷ 3 ∷ [])
-    × (asked L (changed 2 11 (pos 0) (table_of L)) (pos 4) 0
-    ≡ (listed.Refused (record { number = 10; line = LineA; place = 2; visits = 3 }), []))
-    × (asked L (changed 0 11 (pos 16) (table_of L)) (pos 4) 3 ≡ (listed.Entries 0 1, sevens 3))
-    × (asked L (changed 0 11 (pos 99) (changed 1 11 (pos 99) (table_of L))) (pos 6) 3 ≡ (listed.Entries 0 3, sevens 3))
-unfolding table_of rows_of measured longest_in split_of best better height least greatest row_at direction between walk good
-    those_of plain_longer longer_visit longer_reply longer_list
-the-longer-segments = (refl, refl, refl, refl, refl, refl, refl, refl, refl, refl, refl, refl, refl, refl)
-
--- ---- L's 33 numbers, completed into 37, 36 and 35 numbers; with the root's cmax at 23; and with 32 of them
-pub completes-all-or-nothing :
-    (completed L old_l (sevens 37) ≡ table_of L ++ pos 7 ∷ [])
-    × (completed L old_l (sevens 36) ≡ table_of L)
-    × (complete_refusal L old_l (sevens 35) ≡ at_row 6 0)
-    × (completed L old_l (sevens 35) ≡ sevens 35)
-    × (complete_refusal L (set old_l 4 (pos 23)) (sevens 36) ≡ at_row 22 0)
-    × (completed L (set old_l 4 (pos 23)) (sevens 36) ≡ sevens 36)
-    × (complete_refusal L (set old_l 4 (pos 23)) (sevens 35) ≡ at_row 6 0)
-    × (complete_refusal L (take 32 old_l) (sevens 36) ≡ at_row 6 0)
-    × (complete_refusal L (set old_l 13 (pos 0)) (sevens 36) ≡ at_row 21 1)
-unfolding table_of rows_of measured longest_in split_of best better height least greatest row_at direction between joined
-    good build_refusal lowest holds_point row_holds row_right row_fault fault_from old_rows old_row_at completed_rows
-    complete_refusal completed
-completes-all-or-nothing = (refl, refl, refl, refl, refl, refl, refl, refl, refl)

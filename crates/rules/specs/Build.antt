@@ -1,16 +1,16 @@
 -- docs/RULES.md, section 2.6: building refused writes nothing; else the table is the described one, and numbers past
 -- its rows stay unchanged. And section 2.7, what a table must be for its answers to be right, whoever wrote it: its
--- rows are good, hold their points and tell their longest segment.
+-- rows are good and hold their points.
 use Rattle.std.specs.Prelude.{Bool, true, not, cond, ◌&&◌, List, [], ◌∷◌, ◌++◌, ℕ, zero, suc, ◌*◌, ◌-◌, ltb, ℤ, drop}
 use Rattle.std.proofs.Math.Option.{Option, none, some}
 use Rattle.std.specs.Int.Signed.{le_z}
 use Rattle.rules.specs.declared.Line.TheVariants.{LineA}
 use Rattle.rules.specs.declared.Refusal.{Refusal}
 use Rattle.rules.specs.declared.Point.{Point}
-use Rattle.rules.specs.Plane.{eq_z, same_point}
+use Rattle.rules.specs.Plane.{same_point}
 use Rattle.rules.specs.Sheet.{point, points_of, segments_of, on_sheet}
 use Rattle.rules.specs.declared.Row.{Row}
-use Rattle.rules.specs.Tree.{width, row_at, rows_of, row_count, node_c, node_t, longest_in}
+use Rattle.rules.specs.Tree.{width, row_at, rows_of, row_count, node_c, node_t}
 use Rattle.rules.specs.Plain.{every_of}
 use Rattle.rules.specs.Reply.{Check, first_refusal}
 use Rattle.rules.specs.Rows.{point_checks, table_check, good}
@@ -58,8 +58,7 @@ unless_refused (some r) built t = t
 unfoldable pub built_table : List ℤ → List ℤ → List ℤ
 built_table ps t = unless_refused (build_refusal ps t) (table_of ps ++ drop (width * row_count (segments_of ps)) t) t
 
--- ---- a table whose answers are right: at each node the row is good, strip and box hold every point of the run, and
--- the longest is that of the run
+-- ---- a table whose answers are right: at each node the row is good, and strip and box hold every point of the run
 abbrev pub holds_number : ℤ → ℤ → ℤ → Bool
 holds_number lo hi v = le_z lo v && le_z v hi
 
@@ -76,16 +75,13 @@ holds_point r ps first last p = strip_holds r (node_c ps first last p) (node_t p
 unfoldable pub row_holds : List ℤ → Row → ℕ → ℕ → Bool
 row_holds ps r first last = every_of (λ i. holds_point r ps first last (point ps i)) first (suc (last - first))
 
-unfoldable pub row_right : List ℤ → Row → ℕ → ℕ → Bool
-row_right ps r first last = row_holds ps r first last && eq_z r.longest (longest_in ps first last)
-
 -- with at most this many levels
 unfoldable pub sound_from : ℕ → List ℤ → List ℤ → Node → Bool
 sound_from zero ps t n = true
 sound_from (suc levels) ps t n =
     let s = split_in (row_at t n.row) in
     let halves = sound_from levels ps t (left_of n s) && sound_from levels ps t (right_of n s) in
-    good ps (row_at t n.row) n.first n.last && row_right ps (row_at t n.row) n.first n.last
+    good ps (row_at t n.row) n.first n.last && row_holds ps (row_at t n.row) n.first n.last
     && cond (leaf n) true halves
 
 unfoldable pub sound : List ℤ → List ℤ → Bool

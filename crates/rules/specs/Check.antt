@@ -10,7 +10,7 @@ use Rattle.rules.specs.Tree.{row_at}
 use Rattle.rules.specs.Reply.{or_else}
 use Rattle.rules.specs.Rows.{good}
 use Rattle.rules.specs.Questions.{root, leaf, left_of, right_of, split_in}
-use Rattle.rules.specs.Build.{row_right, build_refusal}
+use Rattle.rules.specs.Build.{row_holds, build_refusal}
 
 -- how the row of a node is read
 abbrev pub Reader : Type 0
@@ -23,11 +23,10 @@ read_from t n = row_at t n.row
 abbrev pub fault : ℕ → Node → Option Refusal
 fault number n = some (record { number = number; line = LineA; place = n.row; visits = 0 })
 
--- 21 the row isn't good for the range handed down; 22 its strip or box leaves a point of the run out, or its longest is
--- not the run's
+-- 21 the row isn't good for the range handed down; 22 its strip or box leaves a point of the run out
 unfoldable pub row_fault : List ℤ → Row → Node → Option Refusal
 row_fault ps r n =
-    cond (good ps r n.first n.last) (cond (row_right ps r n.first n.last) none (fault 22 n)) (fault 21 n)
+    cond (good ps r n.first n.last) (cond (row_holds ps r n.first n.last) none (fault 22 n)) (fault 21 n)
 
 -- the row of a node, then its left half, then its right half, with at most this many levels
 unfoldable pub fault_from : Reader → ℕ → List ℤ → Node → Option Refusal

@@ -10,5 +10,3 @@ pub mod Questions
 pub mod Build
 pub mod Check
 pub mod Old
-pub mod Complete
-pub mod Longer

@@ -39,14 +39,10 @@ ends_good ps first last = on_sheet (point ps first) && on_sheet (point ps last)
 abbrev pub leaf_good : List ℤ → ℕ → ℕ → Bool
 leaf_good ps first last = not (is_leaf first last && same_point (point ps first) (point ps last))
 
--- the longest below 1
-abbrev pub longest_good : Row → Bool
-longest_good r = lt_z (pos 0) r.longest
-
 unfoldable pub good : List ℤ → Row → ℕ → ℕ → Bool
 good ps r first last =
-    range_good r first last && split_good r first last && strip_good r && box_good r && longest_good r
-    && ends_good ps first last && leaf_good ps first last
+    range_good r first last && split_good r first last && strip_good r && box_good r && ends_good ps first last
+    && leaf_good ps first last
 
 -- ---- the lengths: 1 odd length of a points slice, 2 fewer than 2 points, 3 more than 4,097 points
 abbrev pub point_checks : Line → List ℤ → List Check
@@ -56,7 +52,7 @@ point_checks l ps =
     ∷ record { holds = ltb most (points_of ps); number = 3; line = l; place = 0 }
     ∷ []
 
--- 6 table shorter than 12*(2n-1)
+-- 6 table shorter than 11*(2n-1)
 abbrev pub table_check : Line → List ℤ → List ℤ → Check
 table_check l ps t =
     record { holds = ltb (length t) (width * row_count (segments_of ps)); number = 6; line = l; place = 0 }
@@ -65,7 +61,7 @@ table_check l ps t =
 abbrev pub length_checks : Line → List ℤ → List ℤ → List Check
 length_checks l ps t = point_checks l ps ++ table_check l ps t ∷ []
 
--- 7 distance, or length, outside 0 to 2,000,000; it has no line
+-- 7 distance outside 0 to 2,000,000; it has no line
 abbrev pub distance_check : ℤ → Check
 distance_check D = record { holds = not (distance_fits D); number = 7; line = NoLine; place = 0 }
 

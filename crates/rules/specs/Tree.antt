@@ -1,8 +1,8 @@
--- docs/RULES.md, section 2: strip, box and longest, the split, the row, the table in preorder.
+-- docs/RULES.md, section 2: strip and box, the split, the row, the table in preorder.
 use Rattle.std.specs.Prelude.{Bool, cond, ◌&&◌, ◌||◌, List, [], ◌∷◌, ◌++◌, ℕ, zero, suc, ◌+◌, ◌*◌, ◌-◌, leb, ltb, eqb, ℤ, pos, negsuc, nat_abs, get_or}
 use Rattle.rules.specs.declared.Point.{Point}
 use Rattle.rules.specs.declared.Row.{Row}
-use Rattle.rules.specs.Plane.{min_z, max_z, step, direction, size², c_at, t_at}
+use Rattle.rules.specs.Plane.{min_z, max_z, direction, c_at, t_at}
 use Rattle.rules.specs.Sheet.{point, most}
 
 -- ---- a node covers points first to last; s is the first point and u the direction from it to the last
@@ -20,13 +20,6 @@ least f i (suc k) = min_z (least f i k) (f (i + suc k))
 unfoldable pub greatest : (ℕ → ℤ) → ℕ → ℕ → ℤ
 greatest f i zero = f i
 greatest f i (suc k) = max_z (greatest f i k) (f (i + suc k))
-
--- ---- |u|^2 of segment i, and the greatest of the segments from point first to point last
-abbrev pub squared_length : List ℤ → ℕ → ℤ
-squared_length ps i = size² (step (point ps i) (point ps (suc i)))
-
-unfoldable pub longest_in : List ℤ → ℕ → ℕ → ℤ
-longest_in ps first last = greatest (squared_length ps) first (last - first - 1)
 
 -- ---- the split: the inner point with the greatest absolute c ..
 unfoldable pub height : List ℤ → ℕ → ℕ → ℕ → ℕ
@@ -52,14 +45,13 @@ best ps first last (suc k) =
 unfoldable pub split_of : List ℤ → ℕ → ℕ → ℕ
 split_of ps first last = best ps first last (last - first - 2)
 
--- ---- a table row is 12 numbers: the one place that knows how many, and where each stands
+-- ---- a table row is 11 numbers: the one place that knows how many, and where each stands
 abbrev pub width : ℕ
-width = 12
+width = 11
 
 abbrev pub numbers : Row → List ℤ
 numbers r =
-    r.first ∷ r.last ∷ r.split ∷ r.cmin ∷ r.cmax ∷ r.tmin ∷ r.tmax ∷ r.xmin ∷ r.xmax ∷ r.ymin ∷ r.ymax
-    ∷ r.longest ∷ []
+    r.first ∷ r.last ∷ r.split ∷ r.cmin ∷ r.cmax ∷ r.tmin ∷ r.tmax ∷ r.xmin ∷ r.xmax ∷ r.ymin ∷ r.ymax ∷ []
 
 -- number k of row r
 abbrev pub number_at : List ℤ → ℕ → ℕ → ℤ
@@ -79,10 +71,9 @@ row_at t r = record {
   xmax = number_at t r 8;
   ymin = number_at t r 9;
   ymax = number_at t r 10;
-  longest = number_at t r 11;
 }
 
--- ---- the row of a node: strip and box are the least and greatest over the node's points, longest over its segments
+-- ---- the row of a node: strip and box are the least and greatest over the node's points
 unfoldable pub measured : List ℤ → ℕ → ℕ → ℤ → Row
 measured ps first last split = record {
   first = pos first;
@@ -96,7 +87,6 @@ measured ps first last split = record {
   xmax = greatest (λ i. (point ps i).x) first (last - first);
   ymin = least (λ i. (point ps i).y) first (last - first);
   ymax = greatest (λ i. (point ps i).y) first (last - first);
-  longest = longest_in ps first last;
 }
 
 -- split is -1 for a leaf

@@ -25,7 +25,6 @@ pub struct Row {
     pub xmax: i64,
     pub ymin: i64,
     pub ymax: i64,
-    pub longest: i64,
 }
 
 // A node of a line's tree: its row, and the range of points handed down.
@@ -60,18 +59,10 @@ pub struct Refusal {
     pub visits: u32,
 }
 
-// What checks come to: the first refusal, or that there is none. So answer the calls that write tables, and the
-// checker.
+// What checks come to: the first refusal, or that there is none. So answer the calls that write, and the checker.
 #[derive(Drop)]
 pub enum Checked {
     Fine,
-    Refused(Refusal),
-}
-
-// What a question that writes a list is answered with: how many entries it wrote, and the visits made; or its refusal.
-#[derive(Drop)]
-pub enum Listed {
-    Entries(u32, u32),
     Refused(Refusal),
 }
 

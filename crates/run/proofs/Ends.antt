@@ -5,21 +5,17 @@ use lib.IntN.{ℤ, pos}
 use lib.Signed.{◌≤ℤ◌, ≤ℤ_refl}
 use Rattle.integers.specs.Laws.{cond_ind}
 use Rattle.integers.specs.Check.{con, ◌:+◌, ◌:*◌, ◌:-◌, ◌:=◌, ring}
-use Rattle.integers.specs.Order.{min_z, max_z, min-l, min-greatest, max-l, max-r, max_least, ≤ℤ-antisym, nn-add, nn-sq}
+use Rattle.integers.specs.Order.{min_z, max_z, min-l, min-greatest, max-r, max_least, ≤ℤ-antisym, nn-add, nn-sq}
 use Rattle.rules.specs.declared.Point.{Point}
 use Rattle.rules.specs.Plane.{same_point, step, direction, size², c_at, t_at}
 use Rattle.visits.proofs.Terms.{c-start, t-start}
 use Rattle.visits.proofs.Points.{same_point}
 
--- a number beside one that is not below it, and beside one that is not above it
-pub min-keeps : {a z : ℤ} → a ≤ℤ z → min_z a z ≡ a
-min-keeps {a} {z} h = ≤ℤ-antisym (min-l a z) (min-greatest (≤ℤ_refl a) h)
-
-pub max-keeps : {a z : ℤ} → z ≤ℤ a → max_z a z ≡ a
-max-keeps {a} {z} h = ≤ℤ-antisym (max_least (≤ℤ_refl a) h) (max-l a z)
-
 -- 0 beside a number that is not below it
-pub max-zero : {z : ℤ} → pos 0 ≤ℤ z → max_z (pos 0) z ≡ z
+min-zero : {z : ℤ} → pos 0 ≤ℤ z → min_z (pos 0) z ≡ pos 0
+min-zero {z} h = ≤ℤ-antisym (min-l (pos 0) z) (min-greatest (≤ℤ_refl (pos 0)) h)
+
+max-zero : {z : ℤ} → pos 0 ≤ℤ z → max_z (pos 0) z ≡ z
 max-zero {z} h = ≤ℤ-antisym (max_least h (≤ℤ_refl z)) (max-r (pos 0) z)
 
 module _ (s e : Point) where
@@ -61,7 +57,7 @@ module _ (s e : Point) where
   c-greatest = λ d. max_z (c-start s u d) (c-end d)
 
   pub t-least : min_z (t_at s u s) (t_at s u e) ≡ pos 0
-  t-least = (λ d. min_z (t-start s u d) (t-end d)) ∙ min-keeps square
+  t-least = (λ d. min_z (t-start s u d) (t-end d)) ∙ min-zero square
 
   pub t-greatest : max_z (t_at s u s) (t_at s u e) ≡ size² (step s e)
   t-greatest = (λ d. max_z (t-start s u d) (t-end d)) ∙ max-zero square

@@ -8,21 +8,18 @@ use native.Mathlib.Nat.{zero-add, sub-zero}
 use native.Mathlib.Omega.{arith}
 use borrow.Author.Tests.{lt-ltb}
 use lib.Dec.{ltb}
-use lib.IntN.{ℤ, pos, nat_abs}
+use lib.IntN.{ℤ, nat_abs}
 use lib.Signed.{◌≤ℤ◌, ≤ℤ_refl}
 use Rattle.integers.specs.Laws.{test-ind}
 use Rattle.integers.specs.Order.{min_z, max_z, min-l, min-r, min-greatest, max-l, max-r, max_least, ≤ℤ-trans, ≤ℤ-antisym}
-use Rattle.rules.specs.Plane.{step, size²}
 use Rattle.rules.specs.Sheet.{point, segments_of}
-use Rattle.rules.specs.Tree.{node_c, node_t, least, greatest, squared_length, longest_in, height, off_middle, better, best}
-use Rattle.rules.specs.Tree.{split_of, measured}
+use Rattle.rules.specs.Tree.{node_c, node_t, least, greatest, height, off_middle, better, best, split_of, measured}
 use Rattle.table_truth.proofs.Rows.{best-between}
 use Rattle.run.specs.declared.Span.{Span}
 use Rattle.run.specs.declared.Top.{Top}
 use Rattle.run.specs.declared.Measured.{Measured}
-use Rattle.run.specs.Run.{ends_of, span_with, top_with, measured_with, measured_to, measure_of}
+use Rattle.run.specs.Run.{ends_of, span_with, top_with, measured_with, measure_of}
 use Rattle.run.proofs.Ends.{c-end, c-least, c-greatest, t-least, t-greatest}
-use Rattle.run.proofs.Longest.{longest_from, longest-from}
 
 -- ---------------- the least and the greatest, the last number taken early
 
@@ -130,14 +127,13 @@ module _ (q : List ℤ) (last : ℕ) where
 -- ---------------- what is measured
 
 module _ (q : List ℤ) (last : ℕ) where
-  -- the strip, the box and the split of the points 0 to i and of the last, and the longest of the i segments so far
+  -- the strip, the box and the split of the points 0 to i and of the last
   abbrev pub so_far : ℕ → Measured
   so_far i = record {
     c = span_to (λ j. node_c q 0 last (point q j)) last i;
     t = span_to (λ j. node_t q 0 last (point q j)) last i;
     x = span_to (λ j. (point q j).x) last i;
     y = span_to (λ j. (point q j).y) last i;
-    longest = longest_from q 0 i;
     top = top_so_far q last i;
   }
 
@@ -152,28 +148,25 @@ module _ (q : List ℤ) (last : ℕ) where
         t = record { lo = t-least s e d; hi = t-greatest s e d };
         x = (ends_of s e).x;
         y = (ends_of s e).y;
-        longest = pos 0;
         top = (ends_of s e).top;
       }
 
   -- one point more
   pub so_far_more : (i : ℕ)
       → so_far (suc i)
-      ≡ measured_with (so_far i) (node_c q 0 last (point q (suc i))) (node_t q 0 last (point q (suc i)))
-      (squared_length q i) (point q (suc i)) last (suc i)
+      ≡ measured_with (so_far i) (node_c q 0 last (point q (suc i))) (node_t q 0 last (point q (suc i))) (point q (suc i))
+      last (suc i)
   unfolding height
   so_far_more i = λ d. record {
     c = span_more (λ j. node_c q 0 last (point q j)) last i d;
     t = span_more (λ j. node_t q 0 last (point q j)) last i d;
     x = span_more (λ j. (point q j).x) last i d;
     y = span_more (λ j. (point q j).y) last i d;
-    longest = max_z (longest_from q 0 i) (squared_length q (zero-add i d));
     top = top-more q last i d;
   }
 
--- what is measured once all inner points are read, and the last segment, is what is measured of the run
-pub so-far-all : (q : List ℤ) (k : ℕ) → suc k ≡ segments_of q
-    → measured_to (so_far q (segments_of q) k) (point q k) (point q (segments_of q)) ≡ measure_of q
+-- what is measured once all inner points are read is what is measured of the run
+pub so-far-all : (q : List ℤ) (k : ℕ) → suc k ≡ segments_of q → so_far q (segments_of q) k ≡ measure_of q
 unfolding measured
 so-far-all q k e =
     let n = segments_of q in
@@ -182,15 +175,11 @@ so-far-all q k e =
     let t : ℕ → ℤ = λ j. node_t q 0 n (point q j) in
     let x : ℕ → ℤ = λ j. (point q j).x in
     let y : ℕ → ℤ = λ j. (point q j).y in
-    let ending : size² (step (point q k) (point q n)) ≡ squared_length q (0 + k) =
-    sym ((λ d. squared_length q (zero-add k d)) ∙ (λ d. size² (step (point q k) (point q (e d))))) in
-    let longest = (λ d. max_z (longest_from q 0 k) (ending d)) ∙ longest-from q 0 n (suc k) (omega arith) (omega arith) in
     (λ d. record {
       c = span-all c n k e d;
       t = span-all t n k e d;
       x = span-all x n k e d;
       y = span-all y n k e d;
-      longest = longest d;
       top = top-all q n k e d;
     })
     ∙ (λ d. record {
@@ -198,6 +187,5 @@ so-far-all q k e =
       t = record { lo = least t 0 (m d); hi = greatest t 0 (m d) };
       x = record { lo = least x 0 (m d); hi = greatest x 0 (m d) };
       y = record { lo = least y 0 (m d); hi = greatest y 0 (m d) };
-      longest = longest_in q 0 n;
       top = top_at q n (split_of q 0 n);
     })

@@ -28,40 +28,26 @@ higher last s top i h = ltb top h || (eqb top h && ltb (off_middle 0 last i) (of
 abbrev pub top_with : ℕ → Top → ℕ → ℕ → Top
 top_with last top i h = cond (higher last top.split top.height i h) (record { split = i; height = h }) top
 
--- the two ends alone, with no segment and point 1 for the split until they are read; one more point, number i, with its
--- c and t and the square of its segment; and at last the end again, with the point before it
+-- the two ends alone, with point 1 for the split until it is read, and one more point, number i, with its c and t
 abbrev pub ends_of : Point → Point → Measured
 ends_of a b = record {
   c = record { lo = pos 0; hi = pos 0 };
   t = record { lo = pos 0; hi = size² (step a b) };
   x = span_of a.x b.x;
   y = span_of a.y b.y;
-  longest = pos 0;
   top = record { split = 1; height = 0 };
 }
 
-abbrev pub measured_with : Measured → ℤ → ℤ → ℤ → Point → ℕ → ℕ → Measured
-measured_with m c t square p last i = record {
+abbrev pub measured_with : Measured → ℤ → ℤ → Point → ℕ → ℕ → Measured
+measured_with m c t p last i = record {
   c = span_with m.c c;
   t = span_with m.t t;
   x = span_with m.x p.x;
   y = span_with m.y p.y;
-  longest = max_z m.longest square;
   top = top_with last m.top i (nat_abs c);
 }
 
-abbrev pub measured_to : Measured → Point → Point → Measured
-measured_to m before e = record {
-  c = m.c;
-  t = m.t;
-  x = m.x;
-  y = m.y;
-  longest = max_z m.longest (size² (step before e));
-  top = m.top;
-}
-
--- ---- a whole run: the strip, the box and the longest of its row, and its split, which of one segment is its last
--- point
+-- ---- a whole run: the strip and the box of its row, and its split, which of one segment is its last point
 abbrev pub measure_of : List ℤ → Measured
 measure_of q =
     let r = measured q 0 (segments_of q) no_split in
@@ -71,6 +57,5 @@ measure_of q =
       t = record { lo = r.tmin; hi = r.tmax };
       x = record { lo = r.xmin; hi = r.xmax };
       y = record { lo = r.ymin; hi = r.ymax };
-      longest = r.longest;
       top = record { split = s; height = height q 0 (segments_of q) s };
     }

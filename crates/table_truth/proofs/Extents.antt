@@ -69,7 +69,7 @@ least-below =
     fold-bounds least-fold (λ a v. a ≤ℤ v) ≤ℤ_refl
     (λ a b v h. ≤ℤ-trans (min-l a b) h) (λ a b v h. ≤ℤ-trans (min-r a b) h)
 
-pub greatest-above : (f : ℕ → ℤ) (i k j : ℕ) → i ≤ j → j ≤ i + k → f j ≤ℤ greatest f i k
+greatest-above : (f : ℕ → ℤ) (i k j : ℕ) → i ≤ j → j ≤ i + k → f j ≤ℤ greatest f i k
 greatest-above =
     fold-bounds greatest-fold (λ a v. v ≤ℤ a) ≤ℤ_refl
     (λ a b v h. ≤ℤ-trans h (max-l a b)) (λ a b v h. ≤ℤ-trans h (max-r a b))
@@ -78,7 +78,7 @@ greatest-above =
 least-all : (Q : ℤ → Type 0) (f : ℕ → ℤ) (i k : ℕ) → ((j : ℕ) → i ≤ j → j ≤ i + k → Q (f j)) → Q (least f i k)
 least-all Q = fold-all least-fold Q (λ a b p q. cond_ind (lt_z a b) a b Q (λ _. p) (λ _. q))
 
-pub greatest-all : (Q : ℤ → Type 0) (f : ℕ → ℤ) (i k : ℕ) → ((j : ℕ) → i ≤ j → j ≤ i + k → Q (f j))
+greatest-all : (Q : ℤ → Type 0) (f : ℕ → ℤ) (i k : ℕ) → ((j : ℕ) → i ≤ j → j ≤ i + k → Q (f j))
     → Q (greatest f i k)
 greatest-all Q = fold-all greatest-fold Q (λ a b p q. cond_ind (lt_z a b) b a Q (λ _. q) (λ _. p))
 

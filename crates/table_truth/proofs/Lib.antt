@@ -2,7 +2,6 @@
 pub mod Rows
 pub mod Split
 pub mod Extents
-pub mod Longest
 pub mod Part
 pub mod Refusals
 pub mod Measured

@@ -7,14 +7,13 @@ use Prim.Native.Nat.{ℕ, ◌+◌, ◌≤◌, ◌<◌}
 use native.Mathlib.Omega.{arith}
 use borrow.Author.Tests.{le-leb, lt-leb, lt-ltb, leb-true}
 use lib.IntN.{ℤ, pos}
-use lib.Signed.{◌<ℤ◌}
 use mir.Facts.{and_yes}
 use Rattle.integers.specs.Laws.{test-ind}
-use Rattle.integers.specs.Order.{≤ℤ-trans, T_true, yes-T, le-true, lt-true, yes-eq_z}
+use Rattle.integers.specs.Order.{≤ℤ-trans, T_true, yes-T, le-true, yes-eq_z}
 use Rattle.rules.specs.declared.Point.{Point}
 use Rattle.rules.specs.Plane.{eq_z, same_point, direction}
 use Rattle.rules.specs.Sheet.{point, on_sheet, in_sheet}
-use Rattle.rules.specs.Tree.{node_c, node_t, longest_in, is_leaf, no_split, measured}
+use Rattle.rules.specs.Tree.{node_c, node_t, is_leaf, no_split, measured}
 use Rattle.rules.specs.Rows.{split_good, side_good, leaf_good, good}
 use Rattle.rules.specs.Build.{holds_number, holds_point}
 use Rattle.visits.specs.Nodes.{Inner}
@@ -33,7 +32,7 @@ both-in p e =
     let h = and_yes (in_sheet p.x) (in_sheet p.y) (T_true e) in
     (yes-T (in_sheet p.x) h.0, yes-T (in_sheet p.y) h.1)
 
-pub same_number : (v : ℤ) → eq_z v v ≡ true
+same_number : (v : ℤ) → eq_z v v ≡ true
 same_number v = yes-T (eq_z v v) (yes-eq_z {a = v} {b = v} refl)
 
 -- ---------------- f over the points first to last
@@ -69,14 +68,12 @@ module _ (ps : List ℤ) (first last : ℕ) (order : first ≤ last) (s : ℤ) w
       also held t_of first last i h k
       also (held (λ j. (point ps j).x) first last i h k also held (λ j. (point ps j).y) first last i h k)
 
-  -- the row is good where its split is, its points are on the sheet, its longest is above 0, and a leaf's two points
-  -- differ
+  -- the row is good where its split is, its points are on the sheet, and a leaf's two points differ
   pub measured-good : ((i : ℕ) → first ≤ i → i ≤ last → on_sheet (point ps i) ≡ true)
       → split_good (measured ps first last s) first last ≡ true
-      → pos 0 <ℤ longest_in ps first last
       → leaf_good ps first last ≡ true → good ps (measured ps first last s) first last ≡ true
   unfolding measured good
-  measured-good on split long leaf =
+  measured-good on split leaf =
       let u = direction (point ps first) (point ps last) in
       let c = rw (c-start (point ps first) u) at (run-within c_of first last first (omega arith) order) in
       let t = rw (t-start (point ps first) u) at (run-within t_of first last first (omega arith) order) in
@@ -85,7 +82,6 @@ module _ (ps : List ℤ) (first last : ℕ) (order : first ≤ last) (s : ℤ) w
       also (le-true c.0 also le-true c.1 also le-true t.0 also le-true t.1)
       also (side-good (λ j. (point ps j).x) first last order (λ j h k. (both-in (point ps j) (on j h k)).0)
       also side-good (λ j. (point ps j).y) first last order (λ j h k. (both-in (point ps j) (on j h k)).1))
-      also lt-true long
       also (on first (omega arith) order also on last order (omega arith))
       also leaf
 

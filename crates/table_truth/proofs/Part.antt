@@ -1,6 +1,5 @@
 -- The run of a node's points is handed on as a part that starts in the middle of the line. What is measured of
--- the part alone, its points counted from 0, is what is measured of the run: the split, the strip, the box and the
--- longest.
+-- the part alone, its points counted from 0, is what is measured of the run: the split, the strip and the box.
 use mathlib.Core.Path.{◌≡◌, refl, sym, ap, subst, ◌∙◌}
 use mathlib.Core.Bool.{Bool, cond, ◌&&◌, ◌||◌}
 use mathlib.Core.List.{List}
@@ -14,10 +13,9 @@ use lib.Seq.{get_or-take, get_or-drop}
 use Rattle.integers.specs.Laws.{test-ind}
 use Rattle.rules.specs.declared.Point.{Point}
 use Rattle.rules.specs.declared.Row.{Row}
-use Rattle.rules.specs.Plane.{step, direction, size², c_at, t_at}
+use Rattle.rules.specs.Plane.{direction, c_at, t_at}
 use Rattle.rules.specs.Sheet.{point}
-use Rattle.rules.specs.Tree.{node_c, node_t, least, greatest, squared_length, longest_in, height, off_middle, better}
-use Rattle.rules.specs.Tree.{best, split_of, measured}
+use Rattle.rules.specs.Tree.{node_c, node_t, least, greatest, height, off_middle, better, best, split_of, measured}
 use Rattle.table_truth.proofs.Rows.{best-between}
 use Rattle.table_truth.proofs.Extents.{least-part, greatest-part}
 
@@ -46,7 +44,6 @@ standing first last split r = record {
   xmax = r.xmax;
   ymin = r.ymin;
   ymax = r.ymax;
-  longest = r.longest;
 }
 
 middle-part : (first m i : ℕ) → off_middle first (first + m) (first + i) ≡ off_middle 0 m i
@@ -106,23 +103,9 @@ module _ (ps q : List ℤ) (first m : ℕ) (same : (i : ℕ) → i ≤ m → poi
       greatest-part (λ i. f (point ps i)) (λ i. g (point q i)) first 0 m at-point,
     )
 
-  length-same : (j : ℕ) → j < m → squared_length ps (first + j) ≡ squared_length q (0 + j)
-  length-same j l =
-      let e : first + suc j ≡ suc (first + j) = omega arith in
-      let after = same (suc j) l ∙ ap (λ (k : ℕ). point ps k) e in
-      sym (λ t. size² (step (same j (omega arith) t) (after t))) ∙ ap (squared_length q) (sym (zero-add j))
-
-  longest-same : 0 < m → longest_in ps first (first + m) ≡ longest_in q 0 m
-  unfolding longest_in
-  longest-same some =
-      let e : first + m - first - 1 ≡ m - 0 - 1 = omega arith in
-      ap (greatest (squared_length ps) first) e
-      ∙ greatest-part (squared_length ps) (squared_length q) first 0 (m - 0 - 1) (λ j l. length-same j (omega arith))
-
-  measured-counted : 0 < m → (s z : ℤ)
-      → measured ps first (first + m) s ≡ standing first (first + m) s (measured q 0 m z)
+  measured-counted : (s z : ℤ) → measured ps first (first + m) s ≡ standing first (first + m) s (measured q 0 m z)
   unfolding measured
-  measured-counted some s z =
+  measured-counted s z =
       let c = extents-same (node_c ps first (first + m)) (node_c q 0 m) c-part in
       let l = extents-same (node_t ps first (first + m)) (node_t q 0 m) t-part in
       let x = extents-same (λ p. p.x) (λ p. p.x) (λ p. refl) in
@@ -139,7 +122,6 @@ module _ (ps q : List ℤ) (first m : ℕ) (same : (i : ℕ) → i ≤ m → poi
         xmax = x.1 t;
         ymin = y.0 t;
         ymax = y.1 t;
-        longest = longest-same some t;
       }
 
 -- ---------------- the part of n numbers that starts at point first
@@ -158,9 +140,8 @@ module _ (ps : List ℤ) (first last n : ℕ) (order : first ≤ last) (enough :
   pub split-part : split_of ps first last ≡ first + split_of part 0 (last - first)
   split-part = ap (split_of ps first) (sym counted) ∙ split-counted ps part first (last - first) same
 
-  -- the strip, the box and the longest of a run are those of its part
-  pub measured-part : first < last → (s z : ℤ)
-      → measured ps first last s ≡ standing first last s (measured part 0 (last - first) z)
-  measured-part some s z =
+  -- the strip and the box of a run are those of its part
+  pub measured-part : (s z : ℤ) → measured ps first last s ≡ standing first last s (measured part 0 (last - first) z)
+  measured-part s z =
       subst (λ (l : ℕ). measured ps first l s ≡ standing first l s (measured part 0 (last - first) z)) counted
-      (measured-counted ps part first (last - first) same (omega arith) s z)
+      (measured-counted ps part first (last - first) same s z)

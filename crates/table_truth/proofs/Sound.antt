@@ -1,5 +1,4 @@
--- A table built without refusal is sound: at each node the row is good, strip and box hold every point of the run, and
--- the longest is the run's.
+-- A table built without refusal is sound: at each node the row is good, and strip and box hold every point of the run.
 -- The rows of a node stand in the table from its row number on, and so do the rows of its halves.
 use mathlib.Core.Path.{◌≡◌, refl, ap, ◌∙◌}
 use mathlib.Core.Bool.{true, false}
@@ -19,29 +18,18 @@ use Rattle.integers.specs.Order.{T_true, yes-T}
 use Rattle.rules.specs.declared.Node.{Node}
 use Rattle.rules.specs.Plane.{same_point}
 use Rattle.rules.specs.Sheet.{point, segments_of, on_sheet}
-use Rattle.rules.specs.Tree.{longest_in, split_of, width, row_at, measured, no_split, rows_of}
+use Rattle.rules.specs.Tree.{split_of, width, row_at, measured, no_split, rows_of}
 use Rattle.rules.specs.Rows.{split_good, good}
-use Rattle.rules.specs.Questions.{root, leaf, left_of, right_of}
-use Rattle.rules.specs.Build.{holds_point, row_holds, row_right, sound_from, sound, build_refusal, table_of, built_table}
+use Rattle.rules.specs.Questions.{root, leaf, size, left_of, right_of}
+use Rattle.rules.specs.Build.{row_holds, sound_from, sound, build_refusal, table_of, built_table}
 use Rattle.visits.proofs.Counts.{every_of-make}
 use Rattle.table_truth.specs.Buildable.{row_numbers}
 use Rattle.table_truth.proofs.Rows.{split_between, leaf-or-inner, leaf-front, inner-front, left-rows, right-rows}
 use Rattle.table_truth.proofs.Rows.{row-start}
 use Rattle.table_truth.proofs.Refusals.{buildable, points_on, some-segment}
 use Rattle.table_truth.proofs.Table.{built-whole}
-use Rattle.table_truth.proofs.Longest.{longest-positive}
 use Rattle.table_truth.proofs.Measured.{◌also◌, measured-holds, measured-good, split_good_lem, leaf-good}
-use Rattle.table_truth.proofs.Measured.{no-split-good, same_number}
-
--- the measured row of a run holds its points, and has its longest
-measured-right : (ps : List ℤ) (first last : ℕ) → first < last → (z : ℤ)
-    → row_right ps (measured ps first last z) first last ≡ true
-unfolding row_right row_holds measured
-measured-right ps first last l z =
-    let r = measured ps first last z in
-    let held : T (row_holds ps r first last) = every_of-make (λ i. holds_point r ps first last (point ps i)) first
-    (suc (last - first)) (λ i a b. T_true (measured-holds ps first last (omega arith) z i a (omega arith))) in
-    yes-T (row_holds ps r first last) held also same_number (longest_in ps first last)
+use Rattle.table_truth.proofs.Measured.{no-split-good}
 
 -- a node is sound whose row is the measured one and good, and whose halves are sound
 module _ (f : ℕ) (ps t : List ℤ) (n : Node) (z : ℤ) where
@@ -52,10 +40,11 @@ module _ (f : ℕ) (ps t : List ℤ) (n : Node) (z : ℤ) where
       → good ps (measured ps n.first n.last z) n.first n.last ≡ true
       → (n.first + 1 < n.last → Sound (left_of n (nat_abs z)) × Sound (right_of n (nat_abs z)))
       → sound_from (suc f) ps t n ≡ true
-  unfolding sound_from measured
+  unfolding sound_from row_holds measured
   sound-make l e g h =
       simp e (g
-      also measured-right ps n.first n.last l z
+      also yes-T _ (every_of-make _ n.first (suc (size n)) (λ i a b.
+      T_true (measured-holds ps n.first n.last (omega arith) z i a (omega arith))))
       also cond_ind (leaf n) true _ (λ b. b ≡ true) (λ _. refl) (λ q. let k = h (leb_no q) in k.0 also k.1))
 
 -- ---------------- a table in which the rows of a line stand
@@ -67,7 +56,6 @@ module _ (ps t : List ℤ) (segments : ℕ) (on : (i : ℕ) → i ≤ segments �
       → split_good (measured ps first last z) first last ≡ true → good ps (measured ps first last z) first last ≡ true
   row-good first last z l m s =
       measured-good ps first last (omega arith) z (λ i a b. on i (omega arith)) s
-      (longest-positive ps first last l (λ i a b. differ i (omega arith)))
       (leaf-good ps first last λ k.
       let e : last ≡ suc first = omega arith in rw e (differ first (omega arith)))
 

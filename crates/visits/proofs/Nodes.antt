@@ -1,6 +1,6 @@
 -- What a good row tells, where a node's rows stand in the table, and what a sound table tells at each node. The row
 -- numbers of both children are kept in one place: `Fits`.
-use mathlib.Core.Path.{◌≡◌, subst}
+use mathlib.Core.Path.{subst}
 use mathlib.Core.Bool.{Bool, true, not, cond, ◌&&◌, and_comm}
 use mathlib.Core.List.{List}
 use mathlib.Core.Logic.{⊎_elim}
@@ -12,24 +12,21 @@ use lib.IntN.{ℤ, pos, negsuc, nat_abs}
 use lib.Signed.{le_z, lt_z, ◌≤ℤ◌, ◌<ℤ◌, le_z_yes, lt_z_yes}
 use mir.Facts.{and_yes, and_no}
 use Rattle.integers.specs.Laws.{zarith}
-use Rattle.integers.specs.Order.{eq_z, eq_z-yes}
 use Rattle.rules.specs.declared.Node.{Node}
 use Rattle.rules.specs.declared.Row.{Row}
 use Rattle.rules.specs.Sheet.{point, segments_of, on_sheet, in_sheet}
-use Rattle.rules.specs.Tree.{longest_in, row_at, row_count}
-use Rattle.rules.specs.Rows.{range_good, split_good, strip_good, side_good, box_good, longest_good, ends_good, leaf_good, good}
+use Rattle.rules.specs.Tree.{row_at, row_count}
+use Rattle.rules.specs.Rows.{range_good, split_good, strip_good, side_good, box_good, ends_good, leaf_good, good}
 use Rattle.rules.specs.Questions.{root, left_of, right_of, leaf, size, split_in}
-use Rattle.rules.specs.Build.{holds_point, row_holds, row_right, sound_from}
+use Rattle.rules.specs.Build.{holds_point, row_holds, sound_from}
 use Rattle.visits.specs.Nodes.{Inner, Fits, RowGood, HoldsStart}
 use Rattle.visits.specs.Reached.{left_half, right_half}
 use Rattle.visits.proofs.Tests.{four-yes}
 use Rattle.visits.proofs.Counts.{every_of-read}
 
 -- ---------------- a good row
--- what it tells: the range handed down, an inner split of a node that is no leaf, a strip that holds the start, a box
--- and ends on the sheet
+-- what it tells: an inner split of a node that is no leaf, a strip that holds the start, a box and ends on the sheet
 pub record GoodRow (ps : List ℤ) (r : Row) (first last : ℕ) : Type 0 where
-  pub range : T (range_good r first last)
   pub split_between : first + 1 < last → Inner first (split_in r) last
   pub split-above : first + 1 < last → pos 0 ≤ℤ r.split
   pub strip : HoldsStart r
@@ -55,12 +52,6 @@ strip-read r h =
       tmax-high = le_z_yes q.3;
     }
 
-pub range-read : (r : Row) (first last : ℕ) → T (range_good r first last)
-    → (r.first ≡ pos first) × (r.last ≡ pos last)
-range-read r first last h =
-    let g = and_yes (eq_z r.first (pos first)) (eq_z r.last (pos last)) h in
-    (eq_z-yes {a = r.first} {b = pos first} g.0, eq_z-yes {a = r.last} {b = pos last} g.1)
-
 side-read : (lo hi : ℤ) → T (side_good lo hi) → T (in_sheet lo) × T (in_sheet hi)
 side-read lo hi h =
     let q = and_yes (le_z lo hi && in_sheet lo) (in_sheet hi) h in ((and_yes (le_z lo hi) (in_sheet lo) q.0).1, q.1)
@@ -69,11 +60,9 @@ pub good-read : (ps : List ℤ) (r : Row) (first last : ℕ) → T (good ps r fi
 unfolding good
 good-read ps r first last h =
     let four = range_good r first last && split_good r first last && strip_good r && box_good r in
-    let five = four && longest_good r in
     let ends = ends_good ps first last in
-    let e = and_yes five ends (and_yes (five && ends) (leaf_good ps first last) h).0 in
-    let f = four-yes (range_good r first last) (split_good r first last) (strip_good r) (box_good r)
-    (and_yes four (longest_good r) e.0).0 in
+    let e = and_yes four ends (and_yes (four && ends) (leaf_good ps first last) h).0 in
+    let f = four-yes (range_good r first last) (split_good r first last) (strip_good r) (box_good r) e.0 in
     let box = and_yes (side_good r.xmin r.xmax) (side_good r.ymin r.ymax) f.3 in
     let x = side-read r.xmin r.xmax box.0 in
     let y = side-read r.ymin r.ymax box.1 in
@@ -81,7 +70,6 @@ good-read ps r first last h =
     let split : first + 1 < last → T (lt_z (pos first) r.split) × T (lt_z r.split (pos last)) =
     λ l. and_yes (lt_z (pos first) r.split) (lt_z r.split (pos last)) (rw (lt-leb last (first + 1) l) at f.1) in
     record {
-      range = f.0;
       split_between = λ l. let k = split l in between-read first last r.split (lt_z_yes k.0) (lt_z_yes k.1);
       split-above = λ l. let k = lt_z_yes {a = pos first} {b = r.split} (split l).0 in omega zarith;
       strip = strip-read r f.2;
@@ -127,24 +115,20 @@ pub record SoundNode (f : ℕ) (ps t : List ℤ) (n : Node) : Type 0 where
   pub row-good : RowGood ps t n
   pub holds : (i : ℕ) → n.first ≤ i → i ≤ n.last
       → T (holds_point (row_at t n.row) ps n.first n.last (point ps i))
-  pub longest : (row_at t n.row).longest ≡ longest_in ps n.first n.last
   pub halves : n.first + 1 < n.last → T (sound_from f ps t (left_half t n)) × T (sound_from f ps t (right_half t n))
 
 pub sound-read : (f : ℕ) (ps t : List ℤ) (n : Node) → n.first < n.last → T (sound_from (suc f) ps t n)
     → SoundNode f ps t n
-unfolding sound_from row_right row_holds
+unfolding sound_from row_holds
 sound-read f ps t n l h =
     let row = good ps (row_at t n.row) n.first n.last in
     let left = sound_from f ps t (left_half t n) in
     let right = sound_from f ps t (right_half t n) in
     let held = row_holds ps (row_at t n.row) n.first n.last in
-    let told = eq_z (row_at t n.row).longest (longest_in ps n.first n.last) in
-    let q = and_yes (row && (held && told)) (cond (leaf n) true (left && right)) h in
-    let g = and_yes row (held && told) q.0 in
-    let r = and_yes held told g.1 in
+    let q = and_yes (row && held) (cond (leaf n) true (left && right)) h in
+    let g = and_yes row held q.0 in
     record {
       row-good = g.0;
-      holds = λ i a b. every_of-read _ n.first (suc (size n)) r.0 i a (omega arith);
-      longest = eq_z-yes r.1;
+      holds = λ i a b. every_of-read _ n.first (suc (size n)) g.1 i a (omega arith);
       halves = λ m. and_yes left right (rw (lt-leb n.last (n.first + 1) m) at q.1);
     }

@@ -1,4 +1,3 @@
--- Theorems about tables of before: of 32-bit numbers, and of eleven numbers in a row.
-pub mod RowByRow
-pub mod Widened
+-- Theorems about tables of 32-bit numbers.
 pub mod Narrow
+pub mod Widened

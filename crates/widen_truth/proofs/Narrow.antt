@@ -1,42 +1,37 @@
--- Every number of a table of 32-bit numbers fits an i32: each of its rows is measured over a run on that sheet, c and t
--- are sums of two products of numbers that are at most 2 * old_limit, and the least and the greatest are taken among
--- them. The longest would not fit: rows had eleven numbers.
-use mathlib.Core.Path.{◌≡◌, sym, ap, ◌∙◌, subst}
+-- Every number of the table of a line on the old sheet fits an i32: c and t are sums of two products of numbers that
+-- are at most 2 * old_limit, and the least and the greatest are taken among them.
+use mathlib.Core.Path.{◌≡◌}
 use mathlib.Core.Bool.{true}
-use mathlib.Core.List.{List, [], ◌∷◌, ◌++◌, append-nil}
-use mathlib.Core.Logic.{⊎_elim}
-use mathlib.Core.Option.{none}
-use Prim.Native.Nat.{ℕ, zero, suc, ◌+◌, ◌*◌, ◌-◌, ◌≤◌, ◌<◌}
-use native.Mathlib.Decide.{ℕ_discrete}
-use native.Mathlib.Nat.{mul-add}
+use mathlib.Core.List.{List, [], ◌∷◌, ◌++◌}
+use Prim.Native.Nat.{ℕ, zero, suc, ◌+◌, ◌≤◌, ◌<◌}
 use native.Mathlib.Omega.{arith}
 use lib.IntN.{ℤ, pos}
-use lib.ListN.{drop}
-use lib.Seq.{drop-drop}
-use mir.Facts.{and_yes}
+use mathlib.Core.Option.{none}
+use mir.Facts.{leb_no, and_yes}
 use mir.Syntax.{w32}
+use Rattle.integers.specs.Laws.{cond_ind}
 use Rattle.integers.specs.Order.{T_true}
 use Rattle.integers.specs.Range.{Abs≤, fits-of}
 use Rattle.rules.specs.declared.Row.{Row}
 use Rattle.rules.specs.Plane.{direction}
 use Rattle.rules.specs.Sheet.{point, segments_of, most, between}
-use Rattle.rules.specs.Tree.{node_c, node_t, split_of, width, row_at, measured, no_split, rows_of, row_count}
+use Rattle.rules.specs.Tree.{node_c, node_t, split_of, numbers, measured, no_split, is_leaf, rows_of}
 use Rattle.rules.specs.Build.{table_of}
-use Rattle.rules.specs.Old.{old_numbers, old_rows, old_limit, on_sheet_of, old_refusal}
+use Rattle.rules.specs.Old.{old_limit, on_old_sheet, old_refusal}
 use Rattle.limits.specs.Small.{Within}
 use Rattle.limits.proofs.OnSheets.{between-abs}
 use Rattle.limits.proofs.Sizes.{direction-within, c-within, t_within}
 use Rattle.widen_truth.specs.RowRange.{old_widest, RowRange, AllFit}
 use Rattle.visits.proofs.Checks.{◌then◌}
-use Rattle.table_truth.proofs.Rows.{≤-or->, split_between, leaf-or-inner, row-start, leaf-front, inner-front}
-use Rattle.table_truth.proofs.Rows.{left-rows, right-rows}
+use Rattle.table_truth.proofs.Rows.{split_between}
+use Rattle.table_truth.proofs.Refusals.{some-segment}
 use Rattle.table_truth.proofs.Extents.{run-all}
-use Rattle.widen_truth.proofs.Widened.{old-some, old-few, old-on}
+use Rattle.widen_truth.proofs.Widened.{old-on, old-buildable}
 
 -- ---------------- the measured row of a run on the sheet
 
 module _ (ps : List ℤ) (first last : ℕ) (order : first ≤ last)
-    (on : (i : ℕ) → first ≤ i → i ≤ last → on_sheet_of old_limit (point ps i) ≡ true) where
+    (on : (i : ℕ) → first ≤ i → i ≤ last → on_old_sheet (point ps i) ≡ true) where
   on-at : (i : ℕ) → first ≤ i → i ≤ last → Within old_limit (point ps i)
   on-at i h k =
       let p = point ps i in
@@ -72,58 +67,9 @@ module _ (ps : List ℤ) (first last : ℕ) (order : first ≤ last)
         ymax = y.1;
       }
 
--- ---------------- every row of a run is the measured row of some run
-
--- a row that stands j rows on
-row_on : (t : List ℤ) (j k : ℕ) → row_at t (j + k) ≡ row_at (drop (width * j) t) k
-row_on t j k =
-    row-start t (j + k)
-    ∙ ap (λ l. row_at l 0) (rw mul-add (sym (drop-drop (width * k) (width * j) t)))
-    ∙ sym (row-start (drop (width * j) t) k)
-
--- what holds of the measured row of each run ..
-module _ (ps : List ℤ) (segments : ℕ) (Q : Row → Type 0)
-    (each : (first last : ℕ) (s : ℤ) → first < last → last ≤ segments → Abs≤ segments s
-    → Q (measured ps first last s)) where
-  from : (t u : List ℤ) (j r : ℕ) → j ≤ r → drop (width * j) t ≡ u → Q (row_at u (r - j)) → Q (row_at t r)
-  from t u j r l e q =
-      let counted : r ≡ j + (r - j) = omega arith in
-      subst Q (sym (ap (row_at t) counted ∙ row_on t j (r - j) ∙ ap (λ l. row_at l (r - j)) e)) q
-
-  -- .. holds of each row of a run and of its halves
-  rows_all : (f first last r : ℕ) (rest : List ℤ) → first < last → last ≤ segments → last ≤ f + first
-      → r + 2 * first + 2 ≤ 2 * last → Q (row_at (rows_of f ps first last ++ rest) r)
-  rows_all zero first last r rest l m k h = absurd (omega arith)
-  rows_all (suc f) first last r rest l m k h =
-      let begun = rows_of (suc f) ps first last ++ rest in
-      ⊎_elim
-      (λ (leaf : last ≤ first + 1).
-      let e : r ≡ 0 = omega arith in
-      rw (e, leaf-front (suc f) ps first last rest leaf (omega arith))
-      (each first last no_split l m (record { abs = omega arith })))
-      (λ inner.
-      let s = split_of ps first last in
-      let b = split_between ps first last inner in
-      elim (ℕ_discrete r 0) [
-        | yes e ↦
-            rw (e, inner-front f ps first last rest inner) (each first last (pos s) l m (record { abs = omega arith }))
-        | no e ↦
-            ⊎_elim
-            (λ right.
-            from begun (rows_of f ps s last ++ rest) (2 * (s - first)) r right
-            (right-rows f ps first last rest inner k)
-            (rows_all f s last (r - 2 * (s - first)) rest b.below m (omega arith) (omega arith)))
-            (λ left.
-            let after = rows_of f ps s last ++ rest in
-            from begun (rows_of f ps first s ++ after) 1 r (omega arith) (left-rows f ps first last rest inner)
-            (rows_all f first s (r - 1) after b.above (omega arith) (omega arith) (omega arith)))
-            (≤-or-> (2 * (s - first)) r)
-      ])
-      (leaf-or-inner first last)
-
 -- ---------------- every number fits an i32
 
-numbers_fit : (r : Row) → RowRange r → AllFit (old_numbers r)
+numbers_fit : (r : Row) → RowRange r → AllFit (numbers r)
 numbers_fit r h =
     fits-of w32 h.first tt then fits-of w32 h.last tt then fits-of w32 h.split tt
     then fits-of w32 h.cmin tt then fits-of w32 h.cmax tt then fits-of w32 h.tmin tt
@@ -134,26 +80,35 @@ fit_append : (xs ys : List ℤ) → AllFit xs → AllFit ys → AllFit (xs ++ ys
 fit_append [] ys p q = q
 fit_append (x ∷ xs) ys p q = (p.0, fit_append xs ys p.1 q)
 
-rows_fit : (t : List ℤ) (k : ℕ) → ((r : ℕ) → r < k → RowRange (row_at t r)) → AllFit (old_rows t k)
-unfolding old_rows
-rows_fit t zero h = tt
-rows_fit t (suc k) h =
-    fit_append (old_rows t k) (old_numbers (row_at t k)) (rows_fit t k (λ r l. h r (omega arith)))
-    (numbers_fit (row_at t k) (h k (omega arith)))
+module _ (ps : List ℤ) (segments : ℕ) (few : segments ≤ most)
+    (on : (i : ℕ) → i ≤ segments → on_old_sheet (point ps i) ≡ true) where
+  row-fit : (first last : ℕ) (s : ℤ) → first ≤ last → last ≤ segments → Abs≤ most s
+      → AllFit (numbers (measured ps first last s))
+  row-fit first last s l m h =
+      numbers_fit (measured ps first last s)
+      (measured-range ps first last l (λ i a b. on i (omega arith)) s (omega arith) h)
 
--- the rows of a line that the rules of 32-bit numbers take
-pub old-fits : (ps t : List ℤ) → old_refusal old_limit ps t ≡ none
-    → AllFit (old_rows (table_of ps) (row_count (segments_of ps)))
+  -- so the rows of a run
+  rows_fit : (f first last : ℕ) → first < last → last ≤ segments → AllFit (rows_of f ps first last)
+  unfolding rows_of
+  rows_fit zero first last l m = tt
+  rows_fit (suc f) first last l m =
+      let s = split_of ps first last in
+      cond_ind (is_leaf first last) (numbers (measured ps first last no_split))
+      (numbers (measured ps first last (pos s)) ++ (rows_of f ps first s ++ rows_of f ps s last)) AllFit
+      (λ _. row-fit first last no_split (omega arith) m (record { abs = omega arith }))
+      (λ t.
+      let b = split_between ps first last (leb_no t) in
+      fit_append (numbers (measured ps first last (pos s))) (rows_of f ps first s ++ rows_of f ps s last)
+      (row-fit first last (pos s) (omega arith) m (record { abs = omega arith }))
+      (fit_append (rows_of f ps first s) (rows_of f ps s last)
+      (rows_fit f first s b.above (omega arith)) (rows_fit f s last b.below m)))
+
+-- and the table of a line that the old rules take
+pub old-fits : (ps t : List ℤ) → old_refusal ps t ≡ none → AllFit (table_of ps)
 unfolding table_of
 old-fits ps t e =
-    let n = segments_of ps in
-    let some = old-some old_limit ps t e in
-    let few = old-few old_limit ps t e in
-    let measured-in : (first last : ℕ) (s : ℤ) → first < last → last ≤ n → Abs≤ n s
-    → RowRange (measured ps first last s) =
-    λ first last s l m h.
-    measured-range ps first last (omega arith) (λ i a b. old-on old_limit ps t e i (omega arith)) s (omega arith)
-    (record { abs = omega (arith, h.abs) }) in
-    rows_fit (table_of ps) (row_count n) λ r l.
-    rw (← append-nil (rows_of n ps 0 n))
-    (rows_all ps n RowRange measured-in n 0 n r [] (omega arith) (omega arith) (omega arith) (omega arith))
+    let a = old-buildable ps t e in
+    rows_fit ps (segments_of ps) (omega (arith, a.lengths.not_more))
+    (λ i h. old-on ps t e i (omega (arith, a.lengths.some-points))) (segments_of ps) 0 (segments_of ps) (some-segment a)
+    (omega arith)

@@ -1,108 +1,71 @@
--- What the rules of before let a builder write can be built now, into enough numbers: a smaller sheet lies on the
--- sheet, and no other rule has changed, but for a twelfth number in a row. So a table of 32-bit numbers, widened, is
--- one that the rules of eleven numbers let a builder write on the sheet of now.
+-- What the old rules let a builder write is what the builder writes now: the old sheet lies on the new one, and no
+-- other rule has changed.
 use mathlib.Core.Path.{◌≡◌, sym, ap, ◌∙◌}
-use mathlib.Core.Bool.{true, false, not}
+use mathlib.Core.Bool.{true, not}
 use mathlib.Core.List.{List, [], ◌∷◌, ◌++◌, append_assoc, append-nil}
 use mathlib.Core.Option.{none}
-use Prim.Native.Nat.{ℕ, suc, ◌≤◌, ◌<◌}
+use Prim.Native.Nat.{ℕ, ◌≤◌, ◌<◌}
 use native.Mathlib.Omega.{arith}
 use borrow.Author.Tests.{not-false, le-ltb, ltb-false}
-use lib.Dec.{T, le→leb}
+use lib.Dec.{T}
 use lib.IntN.{ℤ}
-use lib.ListN.{length, drop, length-append, length-drop}
+use lib.ListN.{length, drop, length-append}
 use lib.Seq.{drop-append-le, drop-length}
 use mir.Facts.{and_yes, yes_and}
 use Rattle.integers.specs.Order.{T_true, yes-T}
 use Rattle.integers.specs.Range.{abs-weaken}
 use Rattle.rules.specs.declared.Line.TheVariants.{LineA}
 use Rattle.rules.specs.declared.Point.{Point}
-use Rattle.rules.specs.Plane.{same_point}
-use Rattle.rules.specs.Sheet.{point, points_of, segments_of, fewest, most, limit, between, in_sheet, on_sheet}
-use Rattle.rules.specs.Tree.{row_count}
-use Rattle.rules.specs.Build.{equal_next, table_of}
-use Rattle.rules.specs.Old.{old_rows, old_row_numbers, old_limit, on_sheet_of, old_checks, old_refusal, old_table}
-use Rattle.rules.specs.Old.{widen_check, widen_refusal, widened}
+use Rattle.rules.specs.Sheet.{point, points_of, segments_of, limit, between, in_sheet, on_sheet}
+use Rattle.rules.specs.Build.{equal_next, table_of, build_refusal, built_table, unless_refused}
+use Rattle.rules.specs.Old.{old_limit, on_old_sheet, old_checks, old_refusal, old_table, widen_check, widen_refusal, widened}
 use Rattle.limits.proofs.OnSheets.{between-abs, abs-between}
 use Rattle.visits.proofs.Checks.{Clear, ◌then◌, none-clear, clear_none, lengths_read}
 use Rattle.table_truth.specs.Buildable.{Buildable, row_numbers}
-use Rattle.table_truth.proofs.Refusals.{none_has, has-none}
-use Rattle.widen_truth.proofs.RowByRow.{rows-length, old-rows-made}
+use Rattle.table_truth.proofs.Refusals.{none_has, none-refused}
+use Rattle.table_truth.proofs.Table.{built-whole, built-length, buildable-longer}
 
--- ---------------- a smaller sheet lies on the sheet
+-- ---------------- the old sheet lies on the new one
 
-module _ (m : ℕ) (small : m ≤ limit) where
-  smaller-number : (v : ℤ) → T (between m v) → T (in_sheet v)
-  smaller-number v t = abs-between limit v (abs-weaken (between-abs m v t) (le→leb m limit small))
+old-number : (v : ℤ) → T (between old_limit v) → T (in_sheet v)
+old-number v t = abs-between limit v (abs-weaken (between-abs old_limit v t) tt)
 
-  smaller-point : (p : Point) → on_sheet_of m p ≡ true → on_sheet p ≡ true
-  smaller-point p e =
-      let h = and_yes (between m p.x) (between m p.y) (T_true e) in
-      yes-T _
-      (yes_and (in_sheet p.x) (in_sheet p.y) (smaller-number p.x h.0) (smaller-number p.y h.1))
+old-point : (p : Point) → on_old_sheet p ≡ true → on_sheet p ≡ true
+old-point p e =
+    let h = and_yes (between old_limit p.x) (between old_limit p.y) (T_true e) in
+    yes-T _ (yes_and (in_sheet p.x) (in_sheet p.y) (old-number p.x h.0) (old-number p.y h.1))
 
--- ---------------- what a build of before was not refused for
+-- ---------------- what an old build was not refused for
 
-module _ (m : ℕ) (ps t : List ℤ) (e : old_refusal m ps t ≡ none) where
+module _ (ps t : List ℤ) (e : old_refusal ps t ≡ none) where
   -- no check of it holds
-  clear : Clear (old_checks m ps t)
+  clear : Clear (old_checks ps t)
   unfolding old_refusal
-  clear = none-clear (old_checks m ps t) e
+  clear = none-clear (old_checks ps t) e
 
-  pub old-some : fewest ≤ points_of ps
-  old-some = ltb-false (points_of ps) fewest clear.1.0
-
-  pub old-few : points_of ps ≤ most
-  old-few = ltb-false most (points_of ps) clear.1.1.0
-
-  -- every point is on the sheet of then
-  pub old-on : (i : ℕ) → i < points_of ps → on_sheet_of m (point ps i) ≡ true
+  -- so every point is on the old sheet
+  pub old-on : (i : ℕ) → i < points_of ps → on_old_sheet (point ps i) ≡ true
   old-on i h =
-      not-false (on_sheet_of m (point ps i))
-      (none_has (λ i. not (on_sheet_of m (point ps i))) (points_of ps) clear.1.1.1.0 i h)
+      not-false (on_old_sheet (point ps i))
+      (none_has (λ i. not (on_old_sheet (point ps i))) (points_of ps) clear.1.1.1.0 i h)
 
-  pub old-differ : (i : ℕ) → i < segments_of ps → same_point (point ps i) (point ps (suc i)) ≡ false
-  old-differ = none_has (equal_next ps) (segments_of ps) clear.1.1.1.1.0
-
-  pub old-long : old_row_numbers ps ≤ length t
-  old-long = ltb-false (length t) (old_row_numbers ps) clear.1.1.1.1.1.0
-
-  -- and all that the builder asks now holds, of a lent table that has twelve numbers for each row
-  pub old-buildable : m ≤ limit → (new : List ℤ) → row_numbers ps ≤ length new → Buildable ps new
-  old-buildable small new h = record {
-    lengths =
-        let c = clear in
-        lengths_read LineA ps new
-        (c.0 then c.1.0 then c.1.1.0 then le-ltb (length new) (row_numbers ps) h then tt);
-    on = λ i l. smaller-point m small (point ps i) (old-on i l);
-    differ = old-differ;
-  }
-
-  -- nor is a build on the whole sheet refused, into a table that is no shorter
-  pub old-again : m ≤ limit → (u : List ℤ) → length t ≤ length u → old_refusal limit ps u ≡ none
-  unfolding old_refusal
-  old-again small u h =
+  -- and all that the builder asks now holds
+  pub old-buildable : Buildable ps t
+  old-buildable =
       let c = clear in
-      clear_none (old_checks limit ps u)
-      (c.0
-      then c.1.0
-      then c.1.1.0
-      then has-none (λ i. not (on_sheet (point ps i))) (points_of ps)
-      (λ i l. ap not (smaller-point m small (point ps i) (old-on i l)))
-      then c.1.1.1.1.0
-      then le-ltb (length u) (old_row_numbers ps) (omega (arith, old-long))
-      then tt)
+      let later = c.1.1.1 in
+      record {
+        lengths = lengths_read LineA ps t (c.0 then c.1.0 then c.1.1.0 then later.1.1.0 then tt);
+        on = λ i h. old-point (point ps i) (old-on i h);
+        differ = none_has (equal_next ps) (segments_of ps) later.1.0;
+      }
 
-  -- the table: its rows, and what stood past them
-  pub old-whole : old_table m ps t ≡ old_rows (table_of ps) (row_count (segments_of ps)) ++ drop (old_row_numbers ps) t
+  -- so the old table is the new one
+  pub old-same : old_table ps t ≡ built_table ps t
   unfolding old_table
-  old-whole = rw e
-
-  pub old-length : length (old_table m ps t) ≡ length t
-  old-length =
-      let rows = row_count (segments_of ps) in
-      rw (old-whole, length-append, length-drop, rows-length (old-rows-made (table_of ps)) rows)
-      (omega (arith, old-long))
+  old-same =
+      ap (λ r. unless_refused r (table_of ps ++ drop (row_numbers ps) t) t) e
+      ∙ sym (built-whole ps t (none-refused ps t old-buildable))
 
 -- ---------------- widening
 
@@ -112,11 +75,11 @@ module _ (old new : List ℤ) where
   unfolding widened
   widened-whole e = rw e
 
-  widened-room : widen_refusal old new ≡ none → length old ≤ length new
+  pub widened-room : widen_refusal old new ≡ none → length old ≤ length new
   unfolding widen_refusal
   widened-room e = ltb-false (length new) (length old) (none-clear (widen_check old new ∷ []) e).0
 
-  room-widens : length old ≤ length new → widen_refusal old new ≡ none
+  pub room-widens : length old ≤ length new → widen_refusal old new ≡ none
   unfolding widen_refusal
   room-widens h = clear_none (widen_check old new ∷ []) (le-ltb (length new) (length old) h then tt)
 
@@ -126,26 +89,26 @@ widened_same old new e =
     widened-whole old new (room-widens old new (omega arith))
     ∙ ap (λ k. old ++ drop k new) (sym e) ∙ ap (λ l. old ++ l) (drop-length new) ∙ append-nil old
 
--- A table that the rules of 32-bit numbers let a builder write, widened, is what the rules of eleven numbers let a
--- builder write for the same points on the sheet of now, into the same numbers widened, and that build is not refused.
-pub widened-old : (ps t new : List ℤ) → old_refusal old_limit ps t ≡ none → widen_refusal t new ≡ none
-    → (old_refusal limit ps (widened t new) ≡ none)
-    × (old_table limit ps (widened t new) ≡ widened (old_table old_limit ps t) new)
-widened-old ps t new e r =
+-- A table that the old rules let a builder write, widened, is what the builder writes for the same points into the same
+-- numbers widened, and that build is not refused.
+pub widened-built : (ps t new : List ℤ) → old_refusal ps t ≡ none → widen_refusal t new ≡ none
+    → (build_refusal ps (widened t new) ≡ none) × (built_table ps (widened t new) ≡ widened (old_table ps t) new)
+widened-built ps t new e r =
+    let a = old-buildable ps t e in
     let u = widened t new in
-    let k = old_row_numbers ps in
-    let rows = old_rows (table_of ps) (row_count (segments_of ps)) in
+    let k = row_numbers ps in
     let room = widened-room t new r in
     let whole = widened-whole t new r in
     let long : length t ≤ length u = rw whole (omega (arith, length-append t (drop (length t) new))) in
-    let taken = old-again old_limit ps t e (omega arith) u long in
-    let many = old-length old_limit ps t e in
-    let old = old_table old_limit ps t in
-    let wide = widened-whole old new (room-widens old new (omega arith)) in
-    let rest = drop-append-le k t (drop (length t) new) (old-long old_limit ps t e) in (
+    let taken = none-refused ps u (buildable-longer long a) in
+    let same = old-same ps t e in
+    let many : length (old_table ps t) ≡ length t = ap length same ∙ built-length ps t in
+    let wide = widened-whole (old_table ps t) new (room-widens (old_table ps t) new (omega arith)) in
+    let old = same ∙ built-whole ps t (none-refused ps t a) in
+    let rest = drop-append-le k t (drop (length t) new) a.lengths.table-long in (
       taken,
-      old-whole limit ps u taken
-          ∙ (λ i. rows ++ (ap (drop k) whole ∙ rest) i)
-          ∙ sym (append_assoc rows (drop k t) (drop (length t) new))
-          ∙ sym (wide ∙ (λ i. old-whole old_limit ps t e i ++ drop (many i) new)),
+      built-whole ps u taken
+          ∙ (λ i. table_of ps ++ (ap (drop k) whole ∙ rest) i)
+          ∙ sym (append_assoc (table_of ps) (drop k t) (drop (length t) new))
+          ∙ sym (wide ∙ (λ i. old i ++ drop (many i) new)),
     )

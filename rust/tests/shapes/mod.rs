@@ -1,7 +1,7 @@
 //! Lines and tables whose trees are as deep as they can be, or nearly so. Each test takes those that it needs.
 #![allow(dead_code)]
 
-use kneukelboom::{OLD_ROW_WIDTH, ROW_WIDTH, SHEET};
+use kneukelboom::SHEET;
 
 pub const SEGMENTS: usize = 4_096;
 
@@ -51,18 +51,10 @@ pub fn flat_ring(higher: i64) -> Vec<i64> {
     there.chain(back).chain([0, bottom]).collect()
 }
 
-/// The squared lengths of a line's segments.
-pub fn squares(points: &[i64]) -> Vec<i64> {
-    let square =
-        |i: usize| (points[i + 2] - points[i]).pow(2) + (points[i + 3] - points[i + 1]).pow(2);
-    (0..points.len() - 2).step_by(2).map(square).collect()
-}
-
-/// A table that dismisses no point, right by every rule, with the given split of each node.
-pub fn table_without_end(points: &[i64], split: fn(usize, usize) -> usize) -> Vec<i64> {
-    let squares = squares(points);
+/// A table that dismisses nothing, good by every rule of refusal 10, with the given split of each node.
+pub fn table_without_end(points: usize, split: fn(usize, usize) -> usize) -> Vec<i64> {
     let mut table = Vec::new();
-    let mut due = vec![(0, squares.len())];
+    let mut due = vec![(0, points - 1)];
     while let Some((first, last)) = due.pop() {
         let middle = split(first, last);
         let is_leaf = last - first == 1;
@@ -73,15 +65,8 @@ pub fn table_without_end(points: &[i64], split: fn(usize, usize) -> usize) -> Ve
         table.extend([first as i64, last as i64, split]);
         table.extend([i64::MIN, i64::MAX, i64::MIN, i64::MAX]);
         table.extend([-SHEET, SHEET, -SHEET, SHEET]);
-        table.extend(squares[first..last].iter().max());
     }
     table
-}
-
-/// A table as version 2 had it: its rows without their last number.
-pub fn without_longest(table: &[i64]) -> Vec<i64> {
-    let rows = table.chunks(ROW_WIDTH);
-    rows.flat_map(|row| row[..OLD_ROW_WIDTH].to_vec()).collect()
 }
 
 /// The split next to the last point: halves nest to the left.

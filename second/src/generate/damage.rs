@@ -2,7 +2,7 @@
 //! the sheet. Some are what a program that is careless with 64 bits would take for something else.
 
 use super::Random;
-use crate::tree::{grow, LONGEST, ROW, SHEET};
+use crate::tree::{grow, ROW, SHEET};
 
 /// Where 32 and 64 bits end, and the numbers beside.
 const EXTREMES: [i64; 20] = [
@@ -44,28 +44,21 @@ pub fn foreign(random: &mut Random, number: i64) -> i64 {
     }
 }
 
-/// Damages one to three numbers of a table, now and then a longest, a whole row, all strips, all longests
-/// or all of it.
+/// Damages one to three numbers of a table, now and then a whole row, all strips or all of it.
 pub fn damage(random: &mut Random, table: &mut [i64]) {
     if table.is_empty() {
         return;
     }
-    // The last row may lack some of its numbers.
-    let rows = table.len().div_ceil(ROW) as i64;
-    let row = random.between(0, rows - 1) as usize;
-    match random.between(0, 23) {
+    match random.between(0, 19) {
         0 => table.fill_with(|| random.any() as i64),
         1 => {
-            let row = table.chunks_mut(ROW).nth(row).expect("a row of the table");
-            row.iter_mut()
-                .for_each(|number| *number = foreign(random, *number));
+            let rows = table.chunks_mut(ROW).count() as i64;
+            let row = random.between(0, rows - 1) as usize;
+            for number in table.chunks_mut(ROW).nth(row).expect("a row of the table") {
+                *number = foreign(random, *number);
+            }
         }
         2 | 3 => damage_strips(random, table),
-        4 => damage_longests(random, table),
-        5..=7 if ROW * (row + 1) <= table.len() => {
-            let kind = random.pick(&Damage::ALL);
-            damage_at(table, row, LONGEST, kind);
-        }
         _ => {
             for _ in 0..random.between(1, 3) {
                 let at = random.between(0, table.len() as i64 - 1) as usize;
@@ -86,15 +79,7 @@ fn damage_strips(random: &mut Random, table: &mut [i64]) {
     }
 }
 
-/// Puts foreign numbers of at least 1 in place of all longests: the rows stay good, but LONGER goes by them.
-fn damage_longests(random: &mut Random, table: &mut [i64]) {
-    for row in table.chunks_exact_mut(ROW) {
-        row[LONGEST] = foreign(random, row[LONGEST]).max(1);
-    }
-}
-
-/// What a single damaged number becomes: one more or less, an end of 64 bits, one off the sheet, 0, 1, -1, or
-/// what a half of its node has there.
+/// What a single damaged number becomes: one more or less, an end of 64 bits, one off the sheet, or 0.
 #[derive(Clone, Copy, PartialEq, Eq, Debug)]
 pub enum Damage {
     OneMore,
@@ -104,15 +89,11 @@ pub enum Damage {
     BeforeTheSheet,
     PastTheSheet,
     Zero,
-    One,
-    MinusOne,
-    LeftHalf,
-    RightHalf,
 }
 
 impl Damage {
     /// Every kind once.
-    pub const ALL: [Damage; 11] = [
+    pub const ALL: [Damage; 7] = [
         Damage::OneMore,
         Damage::OneLess,
         Damage::Least,
@@ -120,18 +101,13 @@ impl Damage {
         Damage::BeforeTheSheet,
         Damage::PastTheSheet,
         Damage::Zero,
-        Damage::One,
-        Damage::MinusOne,
-        Damage::LeftHalf,
-        Damage::RightHalf,
     ];
 }
 
-/// Damages the one number in that row and column of a table; where a half is wanted, one that has none stays.
+/// Damages the one number in that row and column of a table.
 pub fn damage_at(table: &mut [i64], row: usize, column: usize, damage: Damage) {
-    let number = table[ROW * row + column];
-    let of_half = |half: Option<usize>| half.map_or(number, |half| table[ROW * half + column]);
-    table[ROW * row + column] = match damage {
+    let number = &mut table[ROW * row + column];
+    *number = match damage {
         Damage::OneMore => number.wrapping_add(1),
         Damage::OneLess => number.wrapping_sub(1),
         Damage::Least => i64::MIN,
@@ -139,25 +115,7 @@ pub fn damage_at(table: &mut [i64], row: usize, column: usize, damage: Damage) {
         Damage::BeforeTheSheet => -SHEET - 1,
         Damage::PastTheSheet => SHEET + 1,
         Damage::Zero => 0,
-        Damage::One => 1,
-        Damage::MinusOne => -1,
-        Damage::LeftHalf => of_half(left_half(table, row)),
-        Damage::RightHalf => of_half(right_half(table, row)),
     };
-}
-
-/// The row of the left half, where the row splits and the table has a next one.
-fn left_half(table: &[i64], row: usize) -> Option<usize> {
-    let splits = table[ROW * row + 2] != -1;
-    (splits && row + 1 < table.len() / ROW).then_some(row + 1)
-}
-
-/// The row of the right half, where the table, perhaps damaged, has it.
-fn right_half(table: &[i64], row: usize) -> Option<usize> {
-    let (first, split) = (table[ROW * row], table[ROW * row + 2]);
-    let on = split.checked_sub(first)?.checked_mul(2)?;
-    let half = row.checked_add(usize::try_from(on).ok()?)?;
-    (row < half && half < table.len() / ROW).then_some(half)
 }
 
 /// Where a node from first to last splits.
@@ -178,7 +136,7 @@ pub fn foreign_table(random: &mut Random, points: &[i64]) -> Vec<i64> {
     table
 }
 
-/// Widens strips and boxes of a sound table and leaves its longests. It stays sound: no answer changes, visits may.
+/// Widens strips and boxes of a sound table. It stays sound: no answer changes, visits may.
 pub fn loosen(random: &mut Random, table: &mut [i64]) {
     for row in table.chunks_exact_mut(ROW) {
         for pair in row[3..7].chunks_exact_mut(2) {
@@ -189,7 +147,7 @@ pub fn loosen(random: &mut Random, table: &mut [i64]) {
                 pair[1] = pair[1].max(looser(random, pair[1], i64::MAX));
             }
         }
-        for side in row[7..LONGEST].chunks_exact_mut(2) {
+        for side in row[7..].chunks_exact_mut(2) {
             if random.one_in(4) {
                 let below = random.between(-SHEET, side[0]);
                 side[0] = random.pick(&[side[0], below, -SHEET]);
@@ -371,14 +329,12 @@ mod tests {
     }
 
     #[test]
-    fn rows_with_any_strips_of_the_right_sign_and_any_longest_of_1_or_more_stay_good() {
+    fn rows_with_any_strips_of_the_right_sign_stay_good() {
         let mut random = Random(6);
         for _ in 0..1_000 {
             let (mut a, mut b) = (Lent::built(&mut random), Lent::built(&mut random));
             damage_strips(&mut random, &mut a.table);
-            damage_longests(&mut random, &mut a.table);
             damage_strips(&mut random, &mut b.table);
-            damage_longests(&mut random, &mut b.table);
             for outcome in ask(&a, &b, point(&b.points, 0), 900_000, [3_000; 4]) {
                 if let Answer::Refused(refusal) = outcome.answer {
                     assert_eq!(refusal.number, 9, "only a line that is no ring is refused");
@@ -501,62 +457,14 @@ mod tests {
 
     #[test]
     fn damage_at_a_place_changes_that_number_alone() {
-        // The longests, row by row: 81 81 1 81 81 1 81. Row 1 has the halves 2 and 3.
-        let table = Lent::of(vec![0, 0, 1, 0, 1, 9, 2, 9, 2, 0]).table;
-        let (least, greatest) = (i64::MIN, i64::MAX);
-        let numbers = [
-            82, 80, least, greatest, -1_000_001, 1_000_001, 0, 1, -1, 1, 81,
-        ];
+        let table = Lent::of(vec![0, 0, 4, 3, 8, 0]).table;
+        let numbers = [25, 23, i64::MIN, i64::MAX, -1_000_001, 1_000_001, 0];
         for (kind, number) in Damage::ALL.into_iter().zip(numbers) {
             let mut damaged = table.clone();
-            damage_at(&mut damaged, 1, LONGEST, kind);
-            assert_eq!(damaged[ROW + LONGEST], number, "{kind:?}");
-            damaged[ROW + LONGEST] = 81;
+            damage_at(&mut damaged, 0, 4, kind);
+            assert_eq!(damaged[4], number);
+            damaged[4] = 24;
             assert_eq!(damaged, table);
-        }
-    }
-
-    #[test]
-    fn halves_that_a_row_does_not_have_change_nothing() {
-        let table = Lent::of(vec![0, 0, 4, 3, 8, 0]).table;
-        // A leaf has no halves, and some splits point out of the table.
-        for (row, split) in [
-            (1, -1),
-            (2, -1),
-            (2, 9),
-            (0, -5),
-            (0, i64::MAX),
-            (0, i64::MIN),
-        ] {
-            let mut damaged = table.clone();
-            damaged[ROW * row + 2] = split;
-            let before = damaged.clone();
-            damage_at(&mut damaged, row, 6, Damage::RightHalf);
-            assert_eq!(damaged, before);
-            if split == -1 || row == 2 {
-                damage_at(&mut damaged, row, 6, Damage::LeftHalf);
-                assert_eq!(damaged, before);
-            }
-        }
-    }
-
-    #[test]
-    fn damage_comes_to_a_longest_alone_in_every_kind() {
-        let mut random = Random(8);
-        let table = Lent::of(vec![0, 0, 1, 0, 1, 9, 2, 9, 2, 0]).table;
-        let mut met = std::collections::BTreeSet::new();
-        for _ in 0..20_000 {
-            let mut damaged = table.clone();
-            damage(&mut random, &mut damaged);
-            let changed = |at: &usize| damaged[*at] != table[*at];
-            let places: Vec<usize> = (0..table.len()).filter(changed).collect();
-            if let [at] = places[..] {
-                // Of row 1, whose longest is 81 and whose left half's is 1.
-                met.extend((at == ROW + LONGEST).then(|| damaged[at]));
-            }
-        }
-        for number in [0, 1, -1, 80, 82, i64::MIN, i64::MAX] {
-            assert!(met.contains(&number), "{number}");
         }
     }
 }

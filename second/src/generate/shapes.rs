@@ -59,7 +59,7 @@ pub(super) const SHAPES: [Shape; 38] = [
 ];
 
 /// Shapes that are always built, for the B of a scene whose A should be looked at.
-const SOUND: [Shape; 19] = [
+const SOUND: [Shape; 18] = [
     Moved(one_segment),
     Moved(small_walk),
     Moved(large_walk),
@@ -76,7 +76,6 @@ const SOUND: [Shape; 19] = [
     Fixed(sheet_edges),
     Fixed(across_the_sheet),
     Fixed(far_triples),
-    Fixed(stretched),
     Fixed(whole_sheet_ring),
     Fixed(mixed_scale_ring),
 ];
@@ -102,13 +101,6 @@ pub fn sound_line(random: &mut Random) -> Vec<i64> {
     let shape = random.pick(&SOUND);
     let points = shaped(random, shape);
     points.iter().flat_map(|p| [p.x, p.y]).collect()
-}
-
-/// A line that every build takes, of segments of whole length: few of them are long, or many, and those are
-/// of almost one length.
-pub fn stretched_line(random: &mut Random) -> Vec<i64> {
-    let places = stretched(random);
-    places.into_iter().flat_map(|(x, y)| [x, y]).collect()
 }
 
 /// A line of that many points whose built tree is as deep as can be: each node splits at its second point.
@@ -463,27 +455,6 @@ fn far_triples(random: &mut Random) -> Vec<Place> {
     places
 }
 
-/// Short segments and long ones, as where a surveyor skipped a bend, all of whole length.
-fn stretched(random: &mut Random) -> Vec<Place> {
-    // In all segments, every second, few or hardly any.
-    let seldom = random.pick(&[1, 2, 8, 50]);
-    let long = random.pick(&[5, 100, 20_000]);
-    let mut at = (0, 0);
-    let mut places = vec![at];
-    for _ in 0..random.between(1, 60) {
-        let (dx, dy) = random.pick(&WHOLE_STEPS);
-        let times = if random.one_in(seldom) {
-            long + random.between(-1, 1)
-        } else {
-            random.between(1, 3)
-        };
-        at.0 += times * if at.0 < 0 { dx.abs() } else { -dx.abs() };
-        at.1 += times * if at.1 < 0 { dy.abs() } else { -dy.abs() };
-        places.push(at);
-    }
-    places
-}
-
 /// Two whole legs of at most 1,000,000, without a common factor, and their whole hypotenuse.
 pub(super) fn triple(random: &mut Random) -> (i64, i64, i64) {
     loop {
@@ -609,7 +580,7 @@ fn ring_of_three(_: &mut Random) -> Vec<Place> {
 #[cfg(test)]
 mod tests {
     use super::*;
-    use crate::geometry::{all_points, segments, squared_length, Name};
+    use crate::geometry::{all_points, Name};
     use crate::tree::{build, rows, ROW};
 
     #[test]
@@ -654,27 +625,6 @@ mod tests {
                 assert_eq!(node[..2], [first as i64, last]);
             }
         }
-    }
-
-    #[test]
-    fn stretched_lines_have_whole_lengths_and_few_or_many_long_segments() {
-        let mut random = Random(4);
-        let (mut few, mut many, mut all) = (0, 0, 0);
-        for _ in 0..500 {
-            let points = stretched_line(&mut random);
-            let lengths: Vec<i64> = segments(&points)
-                .map(|segment| squared_length(segment) as i64)
-                .map(|square| (square.isqrt(), square))
-                .inspect(|(length, square)| assert_eq!(length * length, *square))
-                .map(|(length, _)| length)
-                .collect();
-            // Short segments are at most 3 * 25 long.
-            let long = lengths.iter().filter(|&&length| length > 75).count();
-            few += u32::from(long > 0 && 4 * long < lengths.len());
-            many += u32::from(3 * long > lengths.len() && long < lengths.len());
-            all += u32::from(long == lengths.len());
-        }
-        assert!(few.min(many).min(all) > 50, "{few} {many} {all}");
     }
 
     #[test]

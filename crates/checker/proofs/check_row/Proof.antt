@@ -1,16 +1,23 @@
--- `check_row`: what its two tests tell of the row.
-use mathlib.Core.Path.{◌≡◌, ◌∙◌}
-use mathlib.Core.Bool.{true}
+-- `check_row`: 21 where the row is not good, 22 where it is and does not hold its run.
+use mathlib.Core.Path.{◌≡◌, sym, ap, subst, ◌∙◌}
+use mathlib.Core.Bool.{Bool, true, cond}
 use mathlib.Core.List.{List}
+use mathlib.Core.Option.{Option, none}
+use native.Mathlib.Omega.{arith}
 use borrow.Author.Rules.{rules}
 use borrow.Author.Tests.{not-true, not-false}
 use lib.IntN.{ℤ}
+use Rattle.integers.specs.Order.{T_true}
 use Rattle.rules.specs.declared.Node.{Node}
-use Rattle.rules.specs.Check.{Reader}
+use Rattle.rules.specs.declared.Refusal.{Refusal}
+use Rattle.rules.specs.declared.Row.{Row}
+use Rattle.rules.specs.Tree.{row_at}
+use Rattle.rules.specs.Rows.{good}
+use Rattle.rules.specs.Build.{row_holds}
+use Rattle.rules.specs.Check.{fault, row_fault}
+use Rattle.visits.specs.Nodes.{HoldsStart}
+use Rattle.visits.proofs.Nodes.{good-read}
 use Rattle.row.specs.Stands.{node_at}
-use Rattle.checker.specs.Reads.{read_by}
-use Rattle.checker.proofs.Readable.{ends-in}
-use Rattle.checker.proofs.Told.{Tried, not_good, strip-held, not_right, all_right}
 use Rattle.checker.proofs.Level.{nothing-found}
 use Rattle.checker.proofs.check_row.Statement.{statement}
 use Rattle.checker.proofs.check_row.Tie as tie
@@ -19,59 +26,102 @@ module _ (s : tie.Start) where
   abbrev points : List ℤ
   points = s.args.points.now.now
 
-  abbrev reader : Reader
-  reader = read_by s.args.old points s.args.table.now.now
+  abbrev row : Row
+  row = row_at s.args.table.now.now s.args.row
 
   abbrev node : Node
   node = node_at s.args.row s.args.first s.args.last
 
--- the places of the code: where the row is read, where it is asked whether it is good
-abbrev start : tie.After-read-row → tie.Start
-start c = c.before.before.before
+  abbrev told : Bool → Bool → Option Refusal
+  told g h = cond g (cond h none (fault 22 node)) (fault 21 node)
 
+  abbrev is_good : Bool
+  is_good = good points row s.args.first s.args.last
+
+  abbrev holds : Bool
+  holds = row_holds points row s.args.first s.args.last
+
+-- the places of the code: where the row is asked whether it is good, and whether it holds its run
 module _ (c : tie.After-good-between) where
-  abbrev read : tie.After-read-row
-  read = c.before.before
+  abbrev start : tie.Start
+  start = c.before.before.before.before
 
-  tried : Tried (reader (start read)) (points (start read)) (node (start read)) read.read-row.result
-      c.good-between.result
-  tried = record { row_read = read.read-row.ensures; good-asked = c.good-between.ensures }
+  good-told : c.good-between.result ≡ is_good start
+  good-told =
+      let a = start.args in
+      c.good-between.ensures
+      ∙ ap (λ (r : Row). good (points start) r a.first a.last) c.before.before.row_at.ensures
 
 good-between-requires : tie.Need-good-between-requires
-good-between-requires c κs = let s = start c.before in ends-in s.pre.0 s.pre.1
+good-between-requires c κs =
+    let s = c.before.before.before in
+    let h = s.requires.0 in (
+      (
+        h.fits.some-segment,
+        omega (arith, h.points-in, h.fine.not_more, h.fine.some-points),
+        omega (arith, h.points-in, h.fine.even, h.fine.some-points),
+      ),
+      (
+        T_true (s.requires.1 s.args.first (omega (arith, h.points-in, h.fits.some-segment))),
+        T_true (s.requires.1 s.args.last (omega (arith, h.points-in, h.fits.some-segment))),
+      ),
+    )
 
 returns : tie.Need-returns
+unfolding row_fault
 returns c =
     let k = c.before.before in
-    let a = (start (read k)).args in
-    c.found.ensures a.first a.last ∙ not_good (tried k) (not-true _ c.before.if1.true)
+    let s = start k in
+    let no = sym (good-told k) ∙ not-true _ c.before.if1.true in
+    c.found.ensures s.args.first s.args.last ∙ sym (λ d. told s (no d) (holds s))
 
--- past the first test the row is good
-good-yes : (c : tie.Else1) → c.before.good-between.result ≡ true
-good-yes c = not-false _ c.if1.false
+-- past the first test the row is good, and its strip holds 0
+good-yes : (c : tie.Else1) → is_good (start c.before) ≡ true
+good-yes c = sym (good-told c.before) ∙ not-false _ c.if1.false
 
-right-run-requires : tie.Need-right-run-requires
-right-run-requires c κs =
+holds-run-requires : tie.Need-holds-run-requires
+holds-run-requires c κs =
     let k = c.before in
-    let s = start (read k.before) in
-    let h = s.pre.0 in (h.fits.some-segment, h.points-in, s.pre.1, strip-held (tried k.before) (good-yes k))
+    let s = start k.before in
+    let a = s.args in
+    let h = s.pre.0 in
+    let strip = (good-read (points s) (row s) a.first a.last (T_true (good-yes k))).strip in (
+      h.fits.some-segment,
+      h.points-in,
+      s.pre.1,
+      subst HoldsStart (sym k.before.before.before.row_at.ensures) strip,
+    )
+
+module _ (c : tie.After-holds-run) where
+  abbrev found-good : tie.Else1
+  found-good = c.before.before
+
+  holds-told : c.holds-run.result ≡ holds (start found-good.before)
+  holds-told =
+      let s = start found-good.before in
+      c.holds-run.ensures
+      ∙ ap (λ (r : Row). row_holds (points s) r s.args.first s.args.last)
+      found-good.before.before.before.row_at.ensures
 
 returns-2 : tie.Need-returns-2
+unfolding row_fault
 returns-2 c =
     let k = c.before.before in
-    let g = k.before.before in
-    let a = (start (read g.before)).args in
-    c.found2.ensures a.first a.last
-    ∙ not_right (tried g.before) (good-yes g) k.right-run.ensures (not-true _ c.before.if2.true)
+    let s = start (found-good k).before in
+    let yes = good-yes (found-good k) in
+    let no = sym (holds-told k) ∙ not-true _ c.before.if2.true in
+    c.found2.ensures s.args.first s.args.last ∙ sym (λ d. told s (yes d) (no d))
 
 returns-3 : tie.Need-returns-3
+unfolding row_fault
 returns-3 c =
     let k = c.before in
-    let g = k.before.before in
-    nothing-found ∙ all_right (tried g.before) (good-yes g) k.right-run.ensures (not-false _ c.if2.false)
+    let s = start (found-good k).before in
+    let yes = good-yes (found-good k) in
+    let held = sym (holds-told k) ∙ not-false _ c.if2.false in
+    nothing-found ∙ sym (λ d. told s (yes d) (held d))
 
 pub check-row-spec : {M : Type 1} → statement M
 check-row-spec =
     tie.close (tie.spec
-    (λ c κs. c.before.before.requires) good-between-requires (search rules) returns right-run-requires (search rules)
-    returns-2 returns-3)
+    (search rules) good-between-requires (search rules) returns holds-run-requires (search rules) returns-2 returns-3)

@@ -1,9 +1,10 @@
--- `holds_point` asks c, t and the box; the numbers fit, so they are read as they are.
+-- `holds_point` asks c, t and the box; the row's numbers fit, so they are read as they are.
 use mathlib.Core.Path.{◌∙◌}
 use mathlib.Core.Bool.{◌&&◌}
 use mir.Syntax.{w64}
 use mir.Val.{SFits}
 use mir.Facts.{to_z-of_z}
+use Rattle.integers.specs.Machine.{result}
 use Rattle.rules.specs.Build.{holds_number}
 use borrow.Author.Rules.{rules}
 use Rattle.checker.proofs.holds_point.Statement.{statement}
@@ -19,15 +20,18 @@ module _ (s : tie.Start) where
 returns : tie.Need-returns
 returns c =
     let along = c.before in
-    let across = along.before.before.before in
-    let s = across.before.before.before in
+    let across = along.before.before.before.before in
+    let s = across.before.before.before.before in
     let f = c-fits s in
     let g = t-fits s in
+    let k = across.before.before.before.c-at in
+    let l = along.before.before.before.t-at in
     let held-c = across.holds.ensures
-    ∙ (λ d. holds_number (to_z-of_z f.0 d) (to_z-of_z f.1 d) (to_z-of_z {w = w64} s.ranges.c d)) in
+    ∙ (λ d. holds_number (to_z-of_z f.0 d) (to_z-of_z f.1 d) (result w64 k.type-inv k.ensures d)) in
     let held-t = along.holds2.ensures
-    ∙ (λ d. holds_number (to_z-of_z g.0 d) (to_z-of_z g.1 d) (to_z-of_z {w = w64} s.ranges.t d)) in
+    ∙ (λ d. holds_number (to_z-of_z g.0 d) (to_z-of_z g.1 d) (result w64 l.type-inv l.ensures d)) in
     λ d. held-c d && held-t d && c.box-holds.ensures d
 
 pub holds-point-spec : {M : Type 1} → statement M
-holds-point-spec = tie.close (tie.spec (search rules) (search rules) (search rules) returns)
+holds-point-spec =
+    tie.close (tie.spec (search rules) (search rules) (search rules) (search rules) (search rules) returns)

@@ -24,13 +24,13 @@ negated v h = reads 1 formula (in-abs h tt & nil) tt ∙ ring 1 (λ a. con (pos 
 neg-above : {v : ℤ} → v <ℤ pos 0 → pos 0 ≤ℤ neg_ℤ v
 neg-above {v} h = omega (zarith, P-neg v, N-neg v)
 
-cast-result : tie.Need-overflow-cast-result
+cast-result : tie.Need-overflow_cast-result
 cast-result c =
     let v = c.before.args.x in
     nat-cast {w = w64} {w' = w64} (fits 1 w64 (λ a. :neg a) (c.before.requires & nil) tt) tt (negated v c.before.requires)
     (neg-above (lt_yes (to_z-of_z {w = w64} c.before.ranges.x) refl c.if1.true))
 
-cast-result-2 : tie.Need-overflow-cast-result-2
+cast-result-2 : tie.Need-overflow_cast-result-2
 cast-result-2 c =
     let e = to_z-of_z {w = w64} c.before.ranges.x in
     nat-cast {w = w64} {w' = w64} c.before.ranges.x tt e (lt_no e refl c.if1.false)

@@ -12,7 +12,6 @@ returns c =
       number = r.number;
       line = c.line_code.ensures i;
       place = r.place;
-      entries = 0;
     }
 
 pub coded-spec : {M : Type 1} → statement M

@@ -23,8 +23,8 @@ use Rattle.meet_visit.proofs.Steps.{Halves, Does, visit-does, else-halves}
 use Rattle.meet_walk.specs.Pair.{ahead}
 use Rattle.meet_walk.specs.Walks.{Opens, WalksOn}
 use Rattle.meet_walk.proofs.Halves.{level_of, Handed, handed, falls-to, walked_to, LeftOver}
-use Rattle.meet_walk.proofs.Halves.{left-half, left-on, left-fewer, left-pair, split_off, left-bad, left-stopped}
-use Rattle.meet_walk.proofs.Halves.{right-half, right-on, right-fewer, right-pair, right-bad, right-comes}
+use Rattle.meet_walk.proofs.Halves.{left-half, left-start, left-fewer, left-pair, left-bad, left-stopped}
+use Rattle.meet_walk.proofs.Halves.{right-half, right-ends, right-fewer, right-pair, right-bad, right-comes}
 use borrow.Fn.Kinds.{In}
 use borrow.Fn.PlainCycle.{Measures, is, falls, and}
 use borrow.Author.Rules.{rules}
@@ -40,7 +40,6 @@ use Rattle.meet_walk.proofs.+halve_a_halve_b_open_walk.Lts-open as open-lts
 use Rattle.meet_walk.proofs.walk.Reads as walk-reads
 use Rattle.meet_walk.proofs.walk.Kinds as walk-kinds
 use Rattle.meet_walk.proofs.+halve_a_halve_b_open_walk.Lts-walk as walk-lts
-use Rattle.line.proofs.on_sheet_at.Reads as on-sheet-at-reads
 use Rattle.ending.proofs.bad_row_due.Reads as bad-row-due-reads
 use Rattle.ending.proofs.bad_second_due.Reads as bad-second-due-reads
 use Rattle.ending.proofs.pack.Reads as pack-reads
@@ -51,7 +50,8 @@ use Rattle.meet_visit.proofs.pack_rows.Reads as pack-rows-reads
 use Rattle.meet_visit.proofs.pair_at.Reads as pair-at-reads
 use Rattle.meet_visit.proofs.visit.Reads as visit-reads
 use Rattle.row.proofs.row_at.Reads as row-at-reads
-use Rattle.meet_walk.proofs.half_good.Reads as half-good-reads
+use Rattle.meet_walk.proofs.left_good.Reads as left-good-reads
+use Rattle.meet_walk.proofs.right_good.Reads as right-good-reads
 use Rattle.rules.proofs.Tally.visit.Reads as Tally-visit-reads
 use Rattle.meet_walk.proofs.+halve_a_halve_b_open_walk.{statement}
 use Rattle.meet_walk.proofs.+halve_a_halve_b_open_walk.Tie.{close}
@@ -97,12 +97,10 @@ module _ (t : ℕ) where
   -- ---------------- what is known of the functions that they call
   abbrev a-claims : a-lts.Claims
   a-claims = (
-    on-sheet-at-reads.Asked,
-    on-sheet-at-reads.Learnt,
+    left-good-reads.Asked,
+    left-good-reads.Learnt,
     bad-row-due-reads.Asked,
     bad-row-due-reads.Learnt,
-    half-good-reads.Asked,
-    half-good-reads.Learnt,
     pack-rows-reads.Asked,
     pack-rows-reads.Learnt,
     walk-below,
@@ -111,16 +109,16 @@ module _ (t : ℕ) where
     stopped-reads.Learnt,
     tally-in-reads.Asked,
     tally-in-reads.Learnt,
+    right-good-reads.Asked,
+    right-good-reads.Learnt,
   )
 
   abbrev b-claims : b-lts.Claims
   b-claims = (
-    on-sheet-at-reads.Asked,
-    on-sheet-at-reads.Learnt,
+    left-good-reads.Asked,
+    left-good-reads.Learnt,
     bad-second-due-reads.Asked,
     bad-second-due-reads.Learnt,
-    half-good-reads.Asked,
-    half-good-reads.Learnt,
     pack-rows-reads.Asked,
     pack-rows-reads.Learnt,
     walk-below,
@@ -129,6 +127,8 @@ module _ (t : ℕ) where
     stopped-reads.Learnt,
     tally-in-reads.Asked,
     tally-in-reads.Learnt,
+    right-good-reads.Asked,
+    right-good-reads.Learnt,
   )
 
   abbrev walk-claims : walk-lts.Claims
@@ -157,30 +157,24 @@ module _ (t : ℕ) where
     b-reads.Post,
   )
 
-  -- ---------------- `halve_a`: the places after its fields are read, the split is asked for, then the row of the left
-  -- half, that half is walked, it did not stop, the next tally is taken, and the row of the right half is asked for
+  -- ---------------- `halve_a`: the places after its fields are read, the row of the left half is asked for, that half
+  -- is walked, it did not stop, the next tally is taken, and the row of the right half is asked for
   abbrev opened_a : a-lts.After-struct-known a-claims a_at a-reads.Post → a-lts.Start a-claims a_at a-reads.Post
   opened_a c = c.before.before.before
 
-  abbrev split-asked_a : a-lts.After-on-sheet-at a-claims a_at a-reads.Post → a-lts.Start a-claims a_at a-reads.Post
-  split-asked_a c = opened_a c.before.before
-
-  abbrev split-is-on_a : a-lts.After-half-good a-claims a_at a-reads.Post → a-lts.Else1 a-claims a_at a-reads.Post
-  split-is-on_a c = c.before.before.before
-
-  abbrev left-asked_a : a-lts.After-half-good a-claims a_at a-reads.Post → a-lts.Start a-claims a_at a-reads.Post
-  left-asked_a c = split-asked_a (split-is-on_a c).before
+  abbrev left-asked_a : a-lts.After-left-good a-claims a_at a-reads.Post → a-lts.Start a-claims a_at a-reads.Post
+  left-asked_a c = opened_a c.before.before.before
 
   abbrev left-walked_a : a-lts.After-walk a-claims a_at a-reads.Post → a-lts.Start a-claims a_at a-reads.Post
   left-walked_a c = left-asked_a c.before.before.before
 
-  abbrev over_a : a-lts.Else3 a-claims a_at a-reads.Post → a-lts.Start a-claims a_at a-reads.Post
+  abbrev over_a : a-lts.Else2 a-claims a_at a-reads.Post → a-lts.Start a-claims a_at a-reads.Post
   over_a c = left-walked_a c.before.before
 
-  abbrev tallied_a : a-lts.After-tally-in a-claims a_at a-reads.Post → a-lts.Else3 a-claims a_at a-reads.Post
+  abbrev tallied_a : a-lts.After-tally-in a-claims a_at a-reads.Post → a-lts.Else2 a-claims a_at a-reads.Post
   tallied_a c = c.before.before.before
 
-  abbrev right-asked_a : a-lts.After-half-good2 a-claims a_at a-reads.Post
+  abbrev right-asked_a : a-lts.After-right-good a-claims a_at a-reads.Post
       → a-lts.After-tally-in a-claims a_at a-reads.Post
   right-asked_a c = c.before.before.before
 
@@ -191,7 +185,7 @@ module _ (t : ℕ) where
       (left_on side_a s.pair s.split) c.pack-rows.result
   left-told_a c =
       let l = c.before.before in
-      handed (left-pair (left-asked_a l).requires.1 l.half-good.ensures c.before.if2.false) c.pack-rows.ensures
+      handed (left-pair (left-asked_a l).requires.1 l.left-good.ensures c.before.if1.false) c.pack-rows.ensures
 
   right-told_a : (c : a-lts.After-pack-rows2 a-claims a_at a-reads.Post)
       → let s = (over_a (tallied_a (right-asked_a c.before.before))).args in
@@ -200,7 +194,7 @@ module _ (t : ℕ) where
   right-told_a c =
       let r = c.before.before in
       handed
-      (right-pair (over_a (tallied_a (right-asked_a r))).pre.1 r.half-good2.ensures c.before.if4.false)
+      (right-pair (over_a (tallied_a (right-asked_a r))).pre.1 r.right-good.ensures c.before.if3.false)
       c.pack-rows2.ensures
 
   left-over_a : (c : a-lts.After-tally-in a-claims a_at a-reads.Post)
@@ -211,34 +205,28 @@ module _ (t : ℕ) where
       record {
         left = w.walk.result;
         comes = walked_to (left-told_a w.before) _ _ w.walk.ensures;
-        goes = sym e.before.stopped.ensures ∙ e.if3.left;
+        goes = sym e.before.stopped.ensures ∙ e.if2.left;
         tallied = c.tally-in.ensures;
       }
 
-  -- ---------------- `halve_b`: the places after its fields are read, the split is asked for, then the row of the left
-  -- half, that half is walked, it did not stop, the next tally is taken, and the row of the right half is asked for
+  -- ---------------- `halve_b`: the places after its fields are read, the row of the left half is asked for, that half
+  -- is walked, it did not stop, the next tally is taken, and the row of the right half is asked for
   abbrev opened_b : b-lts.After-struct-known b-claims b_at b-reads.Post → b-lts.Start b-claims b_at b-reads.Post
   opened_b c = c.before.before.before
 
-  abbrev split-asked_b : b-lts.After-on-sheet-at b-claims b_at b-reads.Post → b-lts.Start b-claims b_at b-reads.Post
-  split-asked_b c = opened_b c.before.before
-
-  abbrev split-is-on_b : b-lts.After-half-good b-claims b_at b-reads.Post → b-lts.Else1 b-claims b_at b-reads.Post
-  split-is-on_b c = c.before.before.before
-
-  abbrev left-asked_b : b-lts.After-half-good b-claims b_at b-reads.Post → b-lts.Start b-claims b_at b-reads.Post
-  left-asked_b c = split-asked_b (split-is-on_b c).before
+  abbrev left-asked_b : b-lts.After-left-good b-claims b_at b-reads.Post → b-lts.Start b-claims b_at b-reads.Post
+  left-asked_b c = opened_b c.before.before.before
 
   abbrev left-walked_b : b-lts.After-walk b-claims b_at b-reads.Post → b-lts.Start b-claims b_at b-reads.Post
   left-walked_b c = left-asked_b c.before.before.before
 
-  abbrev over_b : b-lts.Else3 b-claims b_at b-reads.Post → b-lts.Start b-claims b_at b-reads.Post
+  abbrev over_b : b-lts.Else2 b-claims b_at b-reads.Post → b-lts.Start b-claims b_at b-reads.Post
   over_b c = left-walked_b c.before.before
 
-  abbrev tallied_b : b-lts.After-tally-in b-claims b_at b-reads.Post → b-lts.Else3 b-claims b_at b-reads.Post
+  abbrev tallied_b : b-lts.After-tally-in b-claims b_at b-reads.Post → b-lts.Else2 b-claims b_at b-reads.Post
   tallied_b c = c.before.before.before
 
-  abbrev right-asked_b : b-lts.After-half-good2 b-claims b_at b-reads.Post
+  abbrev right-asked_b : b-lts.After-right-good b-claims b_at b-reads.Post
       → b-lts.After-tally-in b-claims b_at b-reads.Post
   right-asked_b c = c.before.before.before
 
@@ -249,7 +237,7 @@ module _ (t : ℕ) where
       (left_on side_b s.pair s.split) c.pack-rows.result
   left-told_b c =
       let l = c.before.before in
-      handed (left-pair (left-asked_b l).requires.1 l.half-good.ensures c.before.if2.false) c.pack-rows.ensures
+      handed (left-pair (left-asked_b l).requires.1 l.left-good.ensures c.before.if1.false) c.pack-rows.ensures
 
   right-told_b : (c : b-lts.After-pack-rows2 b-claims b_at b-reads.Post)
       → let s = (over_b (tallied_b (right-asked_b c.before.before))).args in
@@ -258,7 +246,7 @@ module _ (t : ℕ) where
   right-told_b c =
       let r = c.before.before in
       handed
-      (right-pair (over_b (tallied_b (right-asked_b r))).pre.1 r.half-good2.ensures c.before.if4.false)
+      (right-pair (over_b (tallied_b (right-asked_b r))).pre.1 r.right-good.ensures c.before.if3.false)
       c.pack-rows2.ensures
 
   left-over_b : (c : b-lts.After-tally-in b-claims b_at b-reads.Post)
@@ -269,7 +257,7 @@ module _ (t : ℕ) where
       record {
         left = w.walk.result;
         comes = walked_to (left-told_b w.before) _ _ w.walk.ensures;
-        goes = sym e.before.stopped.ensures ∙ e.if3.left;
+        goes = sym e.before.stopped.ensures ∙ e.if2.left;
         tallied = c.tally-in.ensures;
       }
 
@@ -437,19 +425,12 @@ pub +halve-a-halve-b-open-walk-spec : {M : Type 1} → statement M
 +halve-a-halve-b-open-walk-spec =
     close μ-a μ-b μ-open μ-walk
     (λ t. a-lts.spec (a-claims t) (a_at t) a-reads.Post
-    -- the split: what it is asked, and where it is off the sheet
+    -- the row of the left half: its number, what it is asked, where it is bad, and where it is walked from
     (λ c. let k = row_small (left-half (opened_a t c).requires.1) in omega arith)
-    (λ c κs. let l = left-half (opened_a t c.before).pre.1 in omega (arith, l.points-in, l.fits.some-segment))
-    (λ c κs. row_small (left-half (split-asked_a t c.before).pre.1))
-    (λ c. let l = c.before.before in
-    split_off (split-asked_a t l).requires.1 l.on-sheet-at.ensures c.before.if1.true c.bad-row-due.ensures)
-    -- the row of the left half: what it is asked, where it is bad, and where it is walked from
-    (λ c κs. let s = c.before.before in
-    let o = (split-asked_a t s.before).pre.1 in
-    (left-half o, left-on o s.before.on-sheet-at.ensures s.if1.false))
+    (λ c κs. let o = (opened_a t c.before.before).pre.1 in (left-half o, left-start o))
     (λ c κs. row_small (left-half (left-asked_a t c.before).pre.1))
     (λ c. let l = c.before.before in
-    left-bad (left-asked_a t l).requires.1 l.half-good.ensures c.before.if2.true c.bad-row-due2.ensures)
+    left-bad (left-asked_a t l).requires.1 l.left-good.ensures c.before.if1.true c.bad-row-due.ensures)
     (λ c κs. let o = (left-asked_a t c.before).pre.1 in
     (row_small (left-half o), row_small o.pair-stands.of-b.stands))
     (λ c κs. let s = (left-asked_a t c.before.before).pre in
@@ -458,7 +439,7 @@ pub +halve-a-halve-b-open-walk-spec : {M : Type 1} → statement M
     (λ c κs. search rules)
     (λ c. let w = c.before.before in
     let s = left-walked_a t w in left-stopped s.pre.1 {counted = s.args.counted} w.walk.result
-    (walked_to (left-told_a t w.before) _ _ w.walk.ensures) c.before.stopped.ensures c.if3.true)
+    (walked_to (left-told_a t w.before) _ _ w.walk.ensures) c.before.stopped.ensures c.if2.true)
     -- it is over: the row of the right half likewise, and what that half comes to
     (λ c. let i = (over_a t c.before).pre.1.inner in omega arith)
     (λ c. let k = row_small (right-half (over_a t c.before).pre.1) in omega arith)
@@ -466,12 +447,11 @@ pub +halve-a-halve-b-open-walk-spec : {M : Type 1} → statement M
     (λ c κs. search rules)
     (λ c κs. let e = tallied_a t c.before.before in
     let l = e.before.before.before.before in
-    let s = split-is-on_a t l.before in
-    let o = (over_a t e).pre.1 in (right-half o, right-on o s.before.on-sheet-at.ensures s.if1.left))
+    let o = (over_a t e).pre.1 in (right-half o, right-ends o l.before.left-good.ensures l.if1.left))
     (λ c κs. row_small (right-half (over_a t (tallied_a t (right-asked_a t c.before))).pre.1))
     (λ c. let y = right-asked_a t c.before.before in
-    right-bad (over_a t (tallied_a t y)).pre.1 (left-over_a t y) c.before.before.half-good2.ensures
-    c.before.if4.true c.bad-row-due3.ensures)
+    right-bad (over_a t (tallied_a t y)).pre.1 (left-over_a t y) c.before.before.right-good.ensures
+    c.before.if3.true c.bad-row-due2.ensures)
     (λ c κs. let o = (over_a t (tallied_a t (right-asked_a t c.before))).pre.1 in
     (row_small (right-half o), row_small o.pair-stands.of-b.stands))
     (λ c κs. let s = (over_a t (tallied_a t (right-asked_a t c.before.before))).pre in
@@ -480,19 +460,12 @@ pub +halve-a-halve-b-open-walk-spec : {M : Type 1} → statement M
     right-comes (over_a t (tallied_a t y)).pre.1 (left-over_a t y) c.walk2.result
     (walked_to (right-told_a t c.before) _ _ c.walk2.ensures)))
     (λ t. b-lts.spec (b-claims t) (b_at t) b-reads.Post
-    -- the split: what it is asked, and where it is off the sheet
+    -- the row of the left half: its number, what it is asked, where it is bad, and where it is walked from
     (λ c. let k = row_small (left-half (opened_b t c).requires.1) in omega arith)
-    (λ c κs. let l = left-half (opened_b t c.before).pre.1 in omega (arith, l.points-in, l.fits.some-segment))
-    (λ c κs. row_small (left-half (split-asked_b t c.before).pre.1))
-    (λ c. let l = c.before.before in
-    split_off (split-asked_b t l).requires.1 l.on-sheet-at.ensures c.before.if1.true c.bad-second-due.ensures)
-    -- the row of the left half: what it is asked, where it is bad, and where it is walked from
-    (λ c κs. let s = c.before.before in
-    let o = (split-asked_b t s.before).pre.1 in
-    (left-half o, left-on o s.before.on-sheet-at.ensures s.if1.false))
+    (λ c κs. let o = (opened_b t c.before.before).pre.1 in (left-half o, left-start o))
     (λ c κs. row_small (left-half (left-asked_b t c.before).pre.1))
     (λ c. let l = c.before.before in
-    left-bad (left-asked_b t l).requires.1 l.half-good.ensures c.before.if2.true c.bad-second-due2.ensures)
+    left-bad (left-asked_b t l).requires.1 l.left-good.ensures c.before.if1.true c.bad-second-due.ensures)
     (λ c κs. let o = (left-asked_b t c.before).pre.1 in
     (row_small o.pair-stands.of-a.stands, row_small (left-half o)))
     (λ c κs. let s = (left-asked_b t c.before.before).pre in
@@ -501,7 +474,7 @@ pub +halve-a-halve-b-open-walk-spec : {M : Type 1} → statement M
     (λ c κs. search rules)
     (λ c. let w = c.before.before in
     let s = left-walked_b t w in left-stopped s.pre.1 {counted = s.args.counted} w.walk.result
-    (walked_to (left-told_b t w.before) _ _ w.walk.ensures) c.before.stopped.ensures c.if3.true)
+    (walked_to (left-told_b t w.before) _ _ w.walk.ensures) c.before.stopped.ensures c.if2.true)
     -- it is over: the row of the right half likewise, and what that half comes to
     (λ c. let i = (over_b t c.before).pre.1.inner in omega arith)
     (λ c. let k = row_small (right-half (over_b t c.before).pre.1) in omega arith)
@@ -509,12 +482,11 @@ pub +halve-a-halve-b-open-walk-spec : {M : Type 1} → statement M
     (λ c κs. search rules)
     (λ c κs. let e = tallied_b t c.before.before in
     let l = e.before.before.before.before in
-    let s = split-is-on_b t l.before in
-    let o = (over_b t e).pre.1 in (right-half o, right-on o s.before.on-sheet-at.ensures s.if1.left))
+    let o = (over_b t e).pre.1 in (right-half o, right-ends o l.before.left-good.ensures l.if1.left))
     (λ c κs. row_small (right-half (over_b t (tallied_b t (right-asked_b t c.before))).pre.1))
     (λ c. let y = right-asked_b t c.before.before in
-    right-bad (over_b t (tallied_b t y)).pre.1 (left-over_b t y) c.before.before.half-good2.ensures
-    c.before.if4.true c.bad-second-due3.ensures)
+    right-bad (over_b t (tallied_b t y)).pre.1 (left-over_b t y) c.before.before.right-good.ensures
+    c.before.if3.true c.bad-second-due2.ensures)
     (λ c κs. let o = (over_b t (tallied_b t (right-asked_b t c.before))).pre.1 in
     (row_small o.pair-stands.of-a.stands, row_small (right-half o)))
     (λ c κs. let s = (over_b t (tallied_b t (right-asked_b t c.before.before))).pre in

@@ -3,7 +3,7 @@ use mathlib.Core.Path.{◌≡◌, sym, ◌∙◌}
 use mathlib.Core.Bool.{true, false, ◌&&◌}
 use borrow.Author.Rules.{rules}
 use borrow.Author.Tests.{not-true, not-false}
-use Rattle.rules.specs.Rows.{range_good, strip_good, box_good, longest_good}
+use Rattle.rules.specs.Rows.{range_good, strip_good, box_good}
 use Rattle.row.proofs.frame_good.Statement.{statement}
 use Rattle.row.proofs.frame_good.Tie as tie
 
@@ -12,17 +12,16 @@ returns c =
     let a = c.before.before.args in
     let no = not-true _ c.if1.true in
     let e : range_good a.r a.first a.last ≡ false = sym c.before.range-good.ensures ∙ no in
-    sym (λ d. e d && (strip_good a.r && box_good a.r && longest_good a.r))
+    sym (λ d. e d && (strip_good a.r && box_good a.r))
 
 returns-2 : tie.Need-returns-2
 returns-2 c =
-    let p = c.before.before.before in
+    let p = c.before.before in
     let a = p.before.before.args in
     let yes = not-false _ p.if1.false in
     let e : range_good a.r a.first a.last ≡ true = sym p.before.range-good.ensures ∙ yes in
-    let box = c.before in
-    (λ d. box.before.strip-good.ensures d && box.box-good.ensures d && c.longest-good.ensures d)
-    ∙ sym (λ d. e d && (strip_good a.r && box_good a.r && longest_good a.r))
+    (λ d. c.before.strip-good.ensures d && c.box-good.ensures d)
+    ∙ sym (λ d. e d && (strip_good a.r && box_good a.r))
 
 pub frame-good-spec : {M : Type 1} → statement M
-frame-good-spec = tie.close (tie.spec (search rules) returns (search rules) (search rules) (search rules) returns-2)
+frame-good-spec = tie.close (tie.spec (search rules) returns (search rules) (search rules) returns-2)

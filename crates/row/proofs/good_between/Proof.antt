@@ -10,8 +10,7 @@ use lib.Signed.{lt_z}
 use Rattle.rules.specs.Plane.{eq_z, same_point}
 use Rattle.rules.specs.Sheet.{point}
 use Rattle.rules.specs.Tree.{no_split}
-use Rattle.rules.specs.Rows.{good}
-use Rattle.row.specs.Parts.{frame_good}
+use Rattle.rules.specs.Rows.{range_good, strip_good, box_good, good}
 use Rattle.row.proofs.Parts.{last_rule, between-parts}
 use Rattle.row.proofs.good_between.Statement.{statement}
 use Rattle.row.proofs.good_between.Tie as tie
@@ -24,7 +23,7 @@ module _ (s : tie.Start) where
   said = good ps s.args.r s.args.first s.args.last
 
   abbrev frame : Bool
-  frame = frame_good s.args.r s.args.first s.args.last
+  frame = range_good s.args.r s.args.first s.args.last && (strip_good s.args.r && box_good s.args.r)
 
   abbrev rest : Bool
   rest = last_rule ps s.args.r s.args.first s.args.last

@@ -9,8 +9,7 @@ use Rattle.row.proofs.row_at.Tie as tie
 returns : tie.Need-returns
 unfolding row_at
 returns c =
-    let c11 = c.before in
-    let c10 = c11.before in
+    let c10 = c.before in
     let c9 = c10.before in
     let c8 = c9.before in
     let c7 = c8.before in
@@ -31,12 +30,11 @@ returns c =
       xmin = result w64 c8.number-at8.type-inv c8.number-at8.ensures d;
       xmax = result w64 c9.number-at9.type-inv c9.number-at9.ensures d;
       ymin = result w64 c10.number-at10.type-inv c10.number-at10.ensures d;
-      ymax = result w64 c11.number-at11.type-inv c11.number-at11.ensures d;
-      longest = result w64 c.number-at12.type-inv c.number-at12.ensures d;
+      ymax = result w64 c.number-at11.type-inv c.number-at11.ensures d;
     }
 
 pub row-at-spec : {M : Type 1} → statement M
 row-at-spec =
     tie.close (tie.spec
     (search rules) (search rules) (search rules) (search rules) (search rules) (search rules) (search rules)
-    (search rules) (search rules) (search rules) (search rules) (search rules) returns)
+    (search rules) (search rules) (search rules) (search rules) returns)

@@ -1,23 +1,19 @@
 -- `put_row`: what is measured of the part is the row and the split of the node.
-use mathlib.Core.Path.{◌≡◌, sym, ap, ◌∙◌}
+use mathlib.Core.Path.{◌≡◌, ap, ◌∙◌}
 use mathlib.Core.List.{List}
 use Prim.Native.Nat.{ℕ, ◌+◌, ◌<◌}
 use native.Mathlib.Omega.{arith}
-use lib.IntN.{ℤ, pos}
-use mir.Syntax.{w64}
-use mir.Val.{SFits}
-use mir.Facts.{to_z-of_z}
+use lib.IntN.{ℤ}
+use Rattle.rules.specs.declared.Row.{Row}
 use Rattle.rules.specs.Sheet.{most}
-use Rattle.rules.specs.Tree.{split_of}
+use Rattle.rules.specs.Tree.{numbers, split_of}
 use Rattle.run.specs.declared.Measured.{Measured}
-use Rattle.build.specs.Rows.{row_of, node_row}
-use Rattle.build.proofs.Node.{run-segments, run_on, run_row, run-split, split-up-to, inner-kind, row_written}
+use Rattle.build.specs.Rows.{split_number, node_row}
+use Rattle.build.proofs.Numbers.{AllFit, stored-written}
+use Rattle.build.proofs.Node.{row_of, run-segments, run_on, run_row, run-split, split-up-to}
 use borrow.Author.Rules.{rules}
 use Rattle.build.proofs.rows.put_row.Statement.{statement}
 use Rattle.build.proofs.rows.put_row.Tie as tie
-
-order : (s : tie.Start) → s.args.first < s.args.last
-order s = let p = s.requires.0 in omega arith
 
 module _ (c : tie.After-measure) where
   abbrev start : tie.Start
@@ -39,40 +35,57 @@ module _ (c : tie.After-measure) where
   found : split ≡ split_of points first last
   found =
       ap (λ (m : Measured). first + m.top.split) c.measure.ensures
-      ∙ run-split points first last (order start) start.pre.2
+      ∙ run-split points first last start.pre.0 start.pre.2
 
   below : split < most
-  below = omega (arith, found, split-up-to points first last (order start), start.pre.1)
+  below = omega (arith, found, split-up-to points first last start.pre.0, start.pre.1)
 
-  fits : SFits w64 (pos split)
-  fits = record { sfits = omega (arith, below) }
+-- the places of the code: where the split is told, and where the strip is read
+abbrev measured : tie.After-split-number → tie.After-measure
+measured c = c.before.before.before
 
+abbrev told : tie.After-struct-told4 → tie.After-split-number
+told c = c.before.before.before.before
+
+abbrev strip-read : tie.After-struct-told8 → tie.After-struct-told4
+strip-read c = c.before.before.before.before
+
+module _ (c : tie.After-split-number) where
   -- the row that is written is the node's
-  written : row_of first last (pos split) c.measure.result ≡ node_row points first last
+  abbrev row : Row
+  row = row_of (first (measured c)) (last (measured c)) c.split-number.result (measured c).measure.result
+
+  written : row ≡ node_row (points (measured c)) (first (measured c)) (last (measured c))
   written =
-      (λ d. row_of first last (pos (found d)) (c.measure.ensures d))
-      ∙ run_row points first last (order start) start.pre.2 (pos (split_of points first last))
-      ∙ sym (inner-kind points first last start.pre.0)
+      let m = measured c in
+      let p = (start m).pre in
+      let number = c.split-number.ensures ∙ ap (split_number (first m) (last m)) (found m) in
+      (λ d. row_of (first m) (last m) (number d) (m.measure.ensures d))
+      ∙ run_row (points m) (first m) (last m) p.0 p.2 (split_number (first m) (last m) _)
+
+  fits : AllFit (numbers row)
+  fits = search rules
 
 measure-requires : tie.Need-measure-requires
 measure-requires c κs =
-    let s = c.before in
-    let a = s.args in
-    let p = s.requires in
-    let n = run-segments a.points.now a.first a.last (order s) p.2 in
-    (run_on a.points.now a.first a.last (order s) p.2 p.3, omega arith, omega arith)
+    let a = c.before.args in
+    let p = c.before.requires in
+    let n = run-segments a.points.now a.first a.last p.0 p.2 in
+    (run_on a.points.now a.first a.last p.0 p.2 p.3, omega arith, omega arith)
+
+put-numbers-requires : tie.Need-put-numbers-requires
+put-numbers-requires c κs = let k = told (strip-read c) in (start (measured k)).pre.4
 
 returns : tie.Need-returns
 returns c =
-    let put = c.before in
-    let k = put.before.before.before in
-    let number = to_z-of_z {w = w64} (fits k) in
-    let row = (λ d. row_of (first k) (last k) (number d) k.measure.result) ∙ written k in
-    (found k, row_written row put.put-measured.ensures)
+    let k = told (strip-read c.before.before) in
+    let rows = ap numbers (written k) in
+    (found (measured k), stored-written (numbers (row k)) _ (fits k) rows c.before.put-numbers.ensures)
 
 pub put-row-spec : {M : Type 1} → statement M
 put-row-spec =
     tie.close (tie.spec
     (search rules) (search rules) (search rules) (search rules) (search rules) (search rules) (search rules)
-    measure-requires (λ c. let l = below c.before in omega arith) (λ c. fits c.before.before) (search rules)
+    measure-requires (λ c. let l = below c.before in omega arith) (search rules) (search rules)
+    (λ c κs. let m = c.before.before in let p = (start m).requires in (omega arith, below m)) put-numbers-requires
     (search rules) returns)

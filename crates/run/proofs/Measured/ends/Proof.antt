@@ -26,7 +26,6 @@ returns c =
       t = record { lo = pos 0; hi = square d };
       x = x d;
       y = y d;
-      longest = pos 0;
       top = record { split = 1; height = 0 };
     }
 

@@ -1,0 +1,21 @@
+-- `split_number`: a node with an inner point, or a leaf.
+use mathlib.Core.Path.{sym, ◌∙◌}
+use native.Mathlib.Omega.{arith}
+use lib.IntN.{pos}
+use mir.Syntax.{w64}
+use mir.Val.{SFits}
+use mir.Facts.{to_z-of_z}
+use borrow.Author.Tests.{le-leb, lt-leb}
+use borrow.Author.Rules.{rules}
+use Rattle.build.proofs.rows.split_number.Statement.{statement}
+use Rattle.build.proofs.rows.split_number.Tie as tie
+
+returns : tie.Need-returns
+returns c =
+    let a = c.before.args in
+    let fits : SFits w64 (pos a.split) = record { sfits = omega arith } in
+    to_z-of_z fits ∙ sym (simp (lt-leb a.last _ c.if1.true))
+
+pub split-number-spec : {M : Type 1} → statement M
+split-number-spec =
+    tie.close (tie.spec (search rules) (search rules) returns (λ c. sym (simp (le-leb _ _ c.if1.false))))

@@ -1,2 +1,0 @@
--- Laws that the proof of `complete` is made of.
-pub mod Refused

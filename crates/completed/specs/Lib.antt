@@ -1,3 +1,0 @@
--- What the theorems about completed tables say.
-pub mod Eleven
-pub mod RangeIn

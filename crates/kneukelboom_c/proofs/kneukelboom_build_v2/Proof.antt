@@ -1,0 +1,13 @@
+-- What is lent stands as `build` leaves it, and its answer is told in numbers.
+use mathlib.Core.Path.{◌∙◌, ap}
+use Rattle.kneukelboom_c.specs.Codes.{coded_checked}
+use borrow.Author.Rules.{rules}
+use Rattle.kneukelboom_c.proofs.kneukelboom_build_v2.Statement.{statement}
+use Rattle.kneukelboom_c.proofs.kneukelboom_build_v2.Tie as tie
+
+returns : tie.Need-returns
+returns c =
+    let said = c.before.before.build.ensures in (c.coded-checked.ensures ∙ ap coded_checked said.0, said.1)
+
+pub kneukelboom-build-v2-spec : {M : Type 1} → statement M
+kneukelboom-build-v2-spec = tie.close (tie.spec (search rules) (search rules) (search rules) returns)

@@ -1,0 +1,12 @@
+-- The answer in numbers.
+use mathlib.Core.Path.{◌∙◌, ap}
+use Rattle.kneukelboom_c.specs.Codes.{coded}
+use borrow.Author.Rules.{rules}
+use Rattle.kneukelboom_c.proofs.kneukelboom_meet_v2.Statement.{statement}
+use Rattle.kneukelboom_c.proofs.kneukelboom_meet_v2.Tie as tie
+
+returns : tie.Need-returns
+returns c = c.coded.ensures ∙ ap coded c.before.meet.ensures
+
+pub kneukelboom-meet-v2-spec : {M : Type 1} → statement M
+kneukelboom-meet-v2-spec = tie.close (tie.spec (search rules) (search rules) returns)

@@ -1,2 +1,0 @@
--- Laws that the proofs of LONGER share.
-pub mod Mapped

@@ -1,2 +1,0 @@
--- What the contracts of LONGER are said with.
-pub mod Answers

@@ -1,2 +1,0 @@
--- Laws that the proofs of LONGER's walk share.
-pub mod Level

@@ -1,0 +1,14 @@
+-- `left_good` reads the row, and asks what is not known of it.
+use mathlib.Core.Path.{◌∙◌}
+use Rattle.rules.specs.Rows.{good}
+use borrow.Author.Rules.{rules}
+use Rattle.meet_walk.proofs.left_good.Statement.{statement}
+use Rattle.meet_walk.proofs.left_good.Tie as tie
+
+returns : tie.Need-returns
+returns c =
+    let a = c.before.before.args in
+    c.good-from.ensures ∙ (λ i. good a.points.now (c.before.row_at.ensures i) a.first a.last)
+
+pub left-good-spec : {M : Type 1} → statement M
+left-good-spec = tie.close (tie.spec (λ c κs. search rules) (λ c κs. search rules) returns)
