@@ -1,5 +1,7 @@
 // AGREE: whether each point of one line is near the other line, both ways round. The checks in their order, then the
 // walks; the answer is that of `rules`, for all numbers that the slices can hold.
+#![tactic(auto)]
+
 ghost use Rattle.std.specs.Prelude.{◌≡◌};
 ghost use Rattle.rules.specs.Questions.{agree_reply};
 

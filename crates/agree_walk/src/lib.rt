@@ -1,5 +1,7 @@
 // AGREE's walks: a line's points in order against the other line. Each point is a NEAR walk of its own, and one tally
 // goes through them all; how the asking ends is that of `rules`, for all numbers that the slices can hold.
+#![tactic(auto)]
+
 ghost use Rattle.std.specs.Prelude.{◌≡◌, ◌+◌, ◌*◌, ◌<◌, ◌≤◌, length};
 ghost use Rattle.rules.specs.Sheet.{points_of};
 ghost use Rattle.rules.specs.Questions.{agreed};

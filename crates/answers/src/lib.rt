@@ -1,5 +1,7 @@
 // What a record is answered, asked as a question over the stores of the two lines: the tables that it needs are
 // readied; where they stand, it is asked of the points and of just their rows, and else what was refused is told.
+#![tactic(auto)]
+
 ghost use Rattle.std.specs.Prelude.{◌≡◌};
 ghost use Rattle.rules.specs.Build.{table_of};
 ghost use Rattle.desk.specs.Kept.{store_in};

@@ -1,5 +1,7 @@
 // The builder: the rows of a line's strip tree, written into a lent table. A refused build writes nothing, and numbers
 // past the rows stay unchanged.
+#![tactic(auto)]
+
 mod rows;
 
 ghost use Rattle.std.specs.Prelude.{◌≡◌};

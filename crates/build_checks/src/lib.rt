@@ -1,4 +1,6 @@
 // The refusals of building and of checking a table, 1 to 6 in this order.
+#![tactic(auto)]
+
 ghost use Rattle.std.specs.Prelude.{◌≡◌, List, ◌+◌, ◌*◌, ◌≤◌, ℤ, length};
 ghost use Rattle.rules.specs.Build.{lowest, off_sheet, equal_next, build_refusal};
 ghost use Rattle.rules.specs.Reply.{checked_refusal};

@@ -1,5 +1,7 @@
 // A byte in: at a line feed the pending bytes are a text line, whose outcome is printed; any other byte is kept.
 // `end_text` and `feed_byte` say it by the definitions of `desk`, and what every lent slice holds afterwards.
+#![tactic(auto)]
+
 ghost use Rattle.std.specs.Prelude.{◌≡◌, [], ◌∷◌, ◌+◌, ◌≤◌, ◌<◌, ◌^◌, length};
 ghost use Rattle.words.specs.Fields.{line_feed};
 ghost use Rattle.print.specs.Printed.{widest};

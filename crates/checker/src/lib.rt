@@ -1,5 +1,7 @@
 // The checker of tables, whoever wrote them: each row is good, and its strip and box hold every point of its run. It
 // only reads, and stops at the first row at fault.
+#![tactic(auto)]
+
 ghost use Rattle.std.specs.Prelude.{◌≡◌, ◌&&◌, ℕ, ◌+◌, ◌≤◌, ◌<◌};
 ghost use Rattle.std.specs.Int.Signed.{le_z};
 ghost use Rattle.rules.specs.Plane.{step, size², c_at, t_at};

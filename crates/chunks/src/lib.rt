@@ -1,5 +1,7 @@
 // The question program on slices: what a chunk of bytes prints. `feed` and `finish` say it by the definitions of
 // `desk`, however the input is cut into chunks, and what every lent slice holds afterwards.
+#![tactic(auto)]
+
 ghost use Rattle.std.specs.Prelude.{◌≡◌, ◌+◌, ◌*◌, ◌≤◌, ◌<◌, ◌^◌, length};
 ghost use Rattle.print.specs.Printed.{widest};
 ghost use Rattle.desk.specs.Chunks.{begun};

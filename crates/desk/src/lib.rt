@@ -2,6 +2,8 @@
 // bytes that it reads, however they are cut. The code stands in the crates above.
 // A line's points that are stored, whether a point past the 257th came, and whether the line's table is built from them
 // as they are.
+#![tactic(auto)]
+
 #[derive(Drop)]
 pub struct Held {
     pub count: usize,

@@ -1,5 +1,7 @@
 // How a walk ended, as one number that it hands back in a register, and what that number answers. Every function says
 // its result by a definition of `rules`, read out of the number (specs/Ending.antt).
+#![tactic(auto)]
+
 ghost use Rattle.std.specs.Prelude.{◌≡◌, ◌+◌, ◌<◌, ◌≤◌, leb};
 ghost use Rattle.rules.specs.Tree.{most_rows};
 ghost use Rattle.rules.specs.Walk.{next};

@@ -1,5 +1,7 @@
 // One visit of IN: it reads one row, checks it, and counts the node's chord alone, tests its one segment or halves it.
 // What it does is what `rules` writes, for all numbers that the slices can hold.
+#![tactic(auto)]
+
 ghost use Rattle.std.specs.Prelude.{◌≡◌, ◌<◌};
 ghost use Rattle.rules.specs.Sheet.{most};
 ghost use Rattle.limits.specs.Small.{OnSheet};

@@ -1,5 +1,7 @@
 // IN's walk of a line whose lengths are checked, one visit at a time. It ends as the written walk of `rules`, after as
 // many visits, for all numbers that the slices can hold.
+#![tactic(auto)]
+
 ghost use Rattle.limits.specs.Small.{OnSheet};
 ghost use Rattle.visits.specs.Fine.{LengthsFine};
 ghost use Rattle.row.specs.Stands.{node_at};

@@ -1,4 +1,6 @@
 // The absolute value that the crates above share.
+#![tactic(auto)]
+
 ghost use Rattle.std.specs.Prelude.{◌≡◌, ◌^◌, nat_abs};
 ghost use Rattle.integers.specs.Range.{Abs≤};
 

@@ -1,6 +1,8 @@
 // The question program: it reads a chunk of standard input, passes it on and writes what that printed, to the end of
 // the input. `pass` promises by the definitions what every answer of `read` comes to: beside it stand the two calls
 // alone.
+#![tactic(auto)]
+
 use chunks::opened;
 use libc::{STDERR_FILENO, STDIN_FILENO, STDOUT_FILENO};
 use limits::{CHUNK_BYTES, KEPT_BYTES, STORE_NUMBERS, TABLE_NUMBERS, WRITTEN_BYTES};

@@ -1,5 +1,7 @@
 // The proved library for C, Rust and whatever links them: slices as pointer and length, replies as one struct of plain
 // numbers. No call requires anything of its numbers: whatever is passed is answered.
+#![tactic(auto)]
+
 ghost use Rattle.std.specs.Prelude.{◌≡◌};
 ghost use Rattle.rules.specs.Build.{build_refusal, built_table};
 ghost use Rattle.rules.specs.Old.{widen_refusal, widened};

@@ -1,5 +1,7 @@
 // Numbers of two words. Squares of c and t pass 64 bits: where they are compared, it is with these, and their meaning
 // is said once. The shapes below are those of which the compiler makes one multiplication for each product.
+#![tactic(auto)]
+
 ghost use Rattle.std.specs.Prelude.{◌≡◌, ◌+◌, ◌*◌, ◌^◌, ◌<◌, ◌≤◌, nat_lt};
 ghost use mir.Val.{bool_byte};
 ghost use Rattle.large.specs.Value.{value_of, roomy};

@@ -1,6 +1,8 @@
 // The limits of the rules and the sizes of the question program (docs/RULES.md, section 1.2), each once for the code,
 // as the specs of `rules`, `desk` and `words` say them for the definitions. Contracts above compare the two, so that a
 // limit that is changed in one of them alone is refused.
+#![tactic(auto)]
+
 pub mod column;
 
 // The numbers of a row: column.rt says where each stands.

@@ -1,5 +1,7 @@
 // Points as the machine reads them: a point out of a slice, steps, c and t, and the lengths that refusals 1, 2, 3 and 6
 // ask for. Every function says its result by a definition of `rules`.
+#![tactic(auto)]
+
 ghost use Rattle.std.specs.Prelude.{◌≡◌, ◌+◌, ◌*◌, ◌<◌, ◌+ℤ◌, ◌-ℤ◌, ◌*ℤ◌, length};
 ghost use Rattle.integers.specs.Order.{min_z, max_z};
 ghost use Rattle.rules.specs.Plane.{same_point, step, direction, c_at, t_at, size²};

@@ -1,5 +1,7 @@
 // MEET: whether some segment of line A and some of line B share a point. `meet` takes any slices, and says what `rules`
 // says of them: the refusals of A, then of B, else the answer of the walk from both roots.
+#![tactic(auto)]
+
 ghost use Rattle.std.specs.Prelude.{◌≡◌};
 ghost use Rattle.rules.specs.Walk.{next, over, on_visit, fresh};
 ghost use Rattle.rules.specs.Questions.{yes_or_no, meet_walk, meet_reply};

@@ -1,5 +1,7 @@
 // One visit of MEET: it reads a row of each line and dismisses the pair, tests two segments, or says that a node is
 // halved. `visit` takes the rows of a pair, which are good, and does what the visit of `rules` does.
+#![tactic(auto)]
+
 ghost use Rattle.std.specs.Prelude.{◌≡◌, not, ◌&&◌, ◌<◌, T};
 ghost use Rattle.rules.specs.Sheet.{most};
 ghost use Rattle.rules.specs.Tree.{most_rows, row_at};

@@ -1,6 +1,8 @@
 // The walk of MEET from a pair of nodes on. Of a pair only one row is new, so a row is checked before the walk goes to
 // it. `walk` takes the rows of a pair, which are good, and comes to what the written walk of `rules` comes to from
 // there; `open` goes on from a pair whose visit was made and halves a node.
+#![tactic(auto)]
+
 ghost use Rattle.std.specs.Prelude.{◌≡◌, T};
 ghost use Rattle.rules.specs.Sheet.{point, on_sheet};
 ghost use Rattle.row.specs.Stands.{Stands, EndsOn, node_at};

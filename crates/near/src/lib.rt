@@ -1,5 +1,7 @@
 // NEAR: whether a point lies within a distance of a line. The checks in their order, then the walk; the answer is that
 // of `rules`, for all numbers that the slices can hold.
+#![tactic(auto)]
+
 ghost use Rattle.std.specs.Prelude.{◌≡◌};
 ghost use Rattle.rules.specs.Questions.{near_reply};
 

@@ -1,5 +1,7 @@
 // NEAR's walk of a line whose lengths are checked, one visit at a time. It ends as the written walk of `rules`, after
 // as many visits, for all numbers that the slices can hold.
+#![tactic(auto)]
+
 ghost use Rattle.integers.specs.Range.{Abs≤};
 ghost use Rattle.rules.specs.Sheet.{farthest};
 ghost use Rattle.limits.specs.Small.{OnSheet};

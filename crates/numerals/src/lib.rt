@@ -1,5 +1,7 @@
 // How one field is read as a number: optional minus, 1 to 10 digits, no leading zero, no "-0". `within` holds for every
 // list of bytes; the functions below it say their results by the definitions of `specs/`.
+#![tactic(auto)]
+
 ghost use Rattle.std.specs.Prelude.{◌≡◌, true, ◌<◌, neg_ℤ, pos};
 ghost use Rattle.numerals.specs.Numerals.{is_digit, all_digits, value_from, good_digits, numeral, in_range, only_if};
 ghost use Rattle.numerals.specs.Read.{number_read, negated};

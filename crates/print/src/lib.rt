@@ -1,5 +1,7 @@
 // How a reply of the question program is printed: one line in bytes. Every writer says the whole slice that it leaves:
 // the bytes written, and all others as they were.
+#![tactic(auto)]
+
 ghost use Rattle.std.specs.Prelude.{◌≡◌, [], ◌∷◌, ◌+◌, ◌<◌, ◌≤◌, length};
 ghost use Rattle.print.specs.Decimal.{decimal};
 ghost use Rattle.print.specs.Printed.{word_bytes, line_byte, printed, widest};

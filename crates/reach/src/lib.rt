@@ -1,5 +1,7 @@
 // How far a point is from a strip and from a segment, by the squared comparison of `large`. The reach is the distance
 // squared. Every function says its result by a definition of `rules`, for all points on the sheet.
+#![tactic(auto)]
+
 ghost use Rattle.std.specs.Prelude.{◌≡◌, ℤ, pos, ◌*ℤ◌, ◌≤ℤ◌};
 ghost use Rattle.std.specs.Int.Signed.{lt_z};
 ghost use Rattle.integers.specs.Range.{Abs≤};

@@ -1,5 +1,7 @@
 // What an answer of `read` comes to: bytes that came are fed, the end of the input is finished, and a failure changes
 // nothing. `pass` promises it by the definitions, for every answer; the program above it only reads and writes.
+#![tactic(auto)]
+
 ghost use Rattle.std.specs.Prelude.{◌≡◌, ◌+◌, ◌<◌, ◌^◌, length};
 ghost use Rattle.records.specs.Left.{slices};
 ghost use Rattle.reading.specs.After.{chunk_bytes, AfterBytes};

@@ -2,6 +2,8 @@
 // line under 13 is refused in place of its build, and a refused A means that B is not built. The lent tables hold what
 // is built, and nothing else in them changes. A table that is built already is not built again: that would change
 // nothing.
+#![tactic(auto)]
+
 ghost use Rattle.std.specs.Prelude.{◌≡◌};
 ghost use Rattle.rules.specs.Build.{table_of};
 ghost use Rattle.rules.specs.Reply.{refuses};

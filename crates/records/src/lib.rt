@@ -1,5 +1,7 @@
 // What a text line comes to, on slices: a point stored, a question answered over the two stores, a refusal.
 // `take_text` says it by the definitions of `desk`, and what every lent slice holds afterwards.
+#![tactic(auto)]
+
 ghost use Rattle.std.specs.Prelude.{◌≡◌, ◌+◌, ◌*◌, ◌<◌, ◌^◌, length};
 ghost use Rattle.desk.specs.Desk.{room};
 ghost use Rattle.records.specs.Left.{both, numbers};

@@ -1,5 +1,7 @@
 // Rows as the machine reads them: a row out of a table, and the row rules of refusal 10. Every function says its result
 // by a definition of `rules`.
+#![tactic(auto)]
+
 ghost use Rattle.std.specs.Prelude.{◌≡◌, ◌&&◌, ◌+◌, ◌*◌, ◌<◌, ◌≤◌, T, pos, length, ◌≤ℤ◌};
 ghost use Rattle.std.specs.Int.Signed.{le_z};
 ghost use Rattle.rules.specs.Tree.{width, number_at, row_at};

@@ -1,18 +1,20 @@
 // The rules of docs/RULES.md as definitions (specs/), and the values that answers are made of. Nothing here computes
 // geometry: the crates above promise `r ≡ definition`, where both sides are the one `Reply`.
+#![tactic(auto)]
+
 ghost use Rattle.std.specs.Prelude.{◌≡◌};
 ghost use Rattle.rules.specs.Reply.{says, disagrees, refuses};
 ghost use Rattle.rules.specs.Walk.{next};
 
 // A point in sheet units.
-#[derive(Drop)]
+#[derive(Clone, Copy)]
 pub struct Point {
     pub x: i64,
     pub y: i64,
 }
 
 // The numbers of a table row.
-#[derive(Drop)]
+#[derive(Clone, Copy)]
 pub struct Row {
     pub first: i64,
     pub last: i64,
@@ -28,7 +30,7 @@ pub struct Row {
 }
 
 // A node of a line's tree: its row, and the range of points handed down.
-#[derive(Drop)]
+#[derive(Clone, Copy)]
 pub struct Node {
     pub row: usize,
     pub first: usize,
@@ -36,14 +38,14 @@ pub struct Node {
 }
 
 // A node of line A and one of line B.
-#[derive(Drop)]
+#[derive(Clone, Copy)]
 pub struct Pair {
     pub a: Node,
     pub b: Node,
 }
 
 // The line that is at fault, or none.
-#[derive(Drop)]
+#[derive(Clone, Copy)]
 pub enum Line {
     NoLine,
     LineA,
@@ -51,7 +53,7 @@ pub enum Line {
 }
 
 // A numbered refusal: its number, the line at fault, the place, and the visits made.
-#[derive(Drop)]
+#[derive(Clone, Copy)]
 pub struct Refusal {
     pub number: u32,
     pub line: Line,
@@ -60,14 +62,14 @@ pub struct Refusal {
 }
 
 // What checks come to: the first refusal, or that there is none. So answer the calls that write, and the checker.
-#[derive(Drop)]
+#[derive(Clone, Copy)]
 pub enum Checked {
     Fine,
     Refused(Refusal),
 }
 
 // The words of an answer, as they are printed.
-#[derive(Drop)]
+#[derive(Clone, Copy)]
 pub enum Word {
     YES,
     NO,
@@ -80,7 +82,7 @@ pub enum Word {
 
 // What a question is answered with: the word, the visits made, the refusal number or 0, the line at fault, or none,
 // and the place or 0.
-#[derive(Drop)]
+#[derive(Clone, Copy)]
 pub struct Reply {
     pub word: Word,
     pub visits: u32,

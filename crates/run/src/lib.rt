@@ -1,5 +1,7 @@
 // A run of points, handed on by itself: its strip, its box and its split point, found in one pass that reads each point
 // once.
+#![tactic(auto)]
+
 ghost use Rattle.std.specs.Prelude.{◌≡◌, ◌≤◌, ◌<◌};
 ghost use Rattle.rules.specs.Plane.{c_at, t_at};
 ghost use Rattle.rules.specs.Sheet.{most, segments_of};

@@ -1,6 +1,8 @@
 // The geometry of one visit of IN: whether a point is on a segment, whether the segment crosses the ray to its right,
 // and whether it is clear of a row's box and strip. Every function says its result by a definition of `rules`, for any
 // row and points of the sheet.
+#![tactic(auto)]
+
 ghost use Rattle.std.specs.Prelude.{◌≡◌, ◌&&◌, pos};
 ghost use Rattle.std.specs.Int.Signed.{lt_z};
 ghost use Rattle.rules.specs.Plane.{direction};

@@ -1,5 +1,7 @@
 // What is kept between text lines and within one: the state beside the lent slices, a point behind the stored points of
 // a line, a byte behind the pending bytes of a text line; and the states on the way from a text line to what it prints.
+#![tactic(auto)]
+
 ghost use Rattle.std.specs.Prelude.{◌≡◌, ◌+◌, ◌≤◌, ◌<◌, ◌^◌, length};
 ghost use Rattle.print.specs.Printed.{widest};
 ghost use Rattle.print.specs.Put.{Put};

@@ -1,4 +1,6 @@
 // Points and tables of 32-bit numbers, from the time of the smaller sheet, made the 64-bit numbers that all calls take.
+#![tactic(auto)]
+
 ghost use Rattle.std.specs.Prelude.{◌≡◌};
 ghost use Rattle.rules.specs.Old.{widen_refusal, widened};
 ghost use Rattle.rules.specs.Reply.{checked_refusal};

@@ -1,5 +1,7 @@
 // How a text line of the question program is read: its fields, the form and the numbers of its record, the record.
 // `record_of` holds for every list of bytes; the functions above it say their results by the definitions of `specs/`.
+#![tactic(auto)]
+
 ghost use Rattle.std.specs.Prelude.{◌≡◌, ◌≤◌, length};
 ghost use Rattle.numerals.specs.Numerals.{in_range};
 ghost use Rattle.numerals.specs.Read.{number_read};

@@ -4,12 +4,12 @@ use borrow.Author.Tests.{lt-ltb, le-ltb}
 use Rattle.rules.proofs.Tally.visit.Statement.{statement}
 use Rattle.rules.proofs.Tally.visit.Tie as tie
 
-returns : tie.Need-returns
-returns c = simp (lt-ltb _ _ c.if1.true)
+returns : tie.Need-returns-then-visits-allowance
+returns c = simp (lt-ltb _ _ c.if-visits-allowance.true)
 
-returns-2 : tie.Need-returns-2
-returns-2 c = simp (le-ltb _ _ c.if1.false)
+returns-2 : tie.Need-returns-else-visits-allowance
+returns-2 c = simp (le-ltb _ _ c.if-visits-allowance.false)
 
-pub visit-spec : {M : Type 1} → statement M
-visit-spec =
+pub visit_spec : {M : Type 1} → statement M
+visit_spec =
     tie.close (tie.spec (λ c. search rules) returns returns-2)
