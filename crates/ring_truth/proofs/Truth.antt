@@ -27,7 +27,7 @@ use Rattle.rules.specs.Questions.{in_visit, in_walk, side_of_ring, in_checks, in
 use Rattle.rules.specs.Build.{sound}
 use Rattle.visits.specs.Tells.{Tells}
 use Rattle.visits.specs.Truthful.{SaysOnly}
-use Rattle.visits.proofs.Points.{same_point}
+use Rattle.visits.proofs.Points.{same_point_lem}
 use Rattle.visits.proofs.Counts.{⊕-assoc, some_of-make, some_of-read}
 use Rattle.visits.proofs.Checks.{none-clear, some-segment}
 use Rattle.visits.proofs.Runs.{odd_in, odd-halves, odd-leaf, some-none, joined-root}
@@ -95,7 +95,7 @@ pub asked-ring : (ps t : List ℤ) (z : Point) → InAsked ps t z → Ring ps
 asked-ring ps t z e =
     let h = none-clear (in_checks ps t z) e in
     let even : length ps % 2 ≢ 1 = eqb_no (T_false h.0) in
-    let same = same_point (point ps 0) (point ps (segments_of ps)) in
+    let same = same_point_lem (point ps 0) (point ps (segments_of ps)) in
     let ring = or_no (ltb (points_of ps) 4) (not same) (T_false h.1.1.1.1.1.0) in
     record {
       pairs = omega arith;

@@ -84,7 +84,7 @@ pub one-point : {a b : Point} → a.x ≡ b.x → a.y ≡ b.y → a ≡ b
 one-point ex ey = λ i. record { x = ex i; y = ey i }
 
 -- and so are those that the test finds the same
-pub same_point : (a b : Point) → T (same_point a b) → a ≡ b
-same_point a b t =
+pub same_point_lem : (a b : Point) → T (same_point a b) → a ≡ b
+same_point_lem a b t =
     let h = and_yes (eq_z a.x b.x) (eq_z a.y b.y) t in
     one-point {a = a} {b = b} (eq_z-yes h.0) (eq_z-yes h.1)

@@ -4,7 +4,7 @@ use Rattle.large.proofs.Columns.{carried-small, order-carried}
 use Rattle.large.proofs.less.Statement.{statement}
 use Rattle.large.proofs.less.Tie as tie
 
-add-result : tie.Need-overflow-add-result
+add-result : tie.Need-overflow_add-result
 add-result c =
     let s = c.before.before in
     let k = carried-small s.args.a.low s.args.b.low c.before.carried.ensures in
@@ -19,5 +19,5 @@ returns c =
     let m : b.low < 2 ^ 64 = search rules in
     order-carried a.high a.low b.high b.low _ l m k.carried.ensures
 
-pub less-spec : {M : Type 1} → statement M
-less-spec = tie.close (tie.spec (search rules) add-result returns)
+pub less_spec : {M : Type 1} → statement M
+less_spec = tie.close (tie.spec (search rules) add-result returns)

@@ -5,11 +5,11 @@ use Rattle.large.proofs.plus.Statement.{statement}
 use Rattle.large.proofs.plus.Tie as tie
 
 -- the high words and what is carried
-high_fits : tie.Need-overflow-add-t6
+high_fits : tie.Need-overflow_add-result-2
 high_fits c =
     let s = c.before.before.before.before in
     let w = c.before.before.before in
-    let k = carried-small w.wrapping-add-u64.result s.args.a.low c.before.before.carried.ensures in
+    let k = carried-small w.wrapping_add_u64-low.result s.args.a.low c.before.before.carried-carry.ensures in
     record { fits = omega (arith, s.requires.0, s.requires.1) }
 
 returns : tie.Need-returns
@@ -20,7 +20,7 @@ returns c =
     let b = w.before.args.b in
     let l : a.low < 2 ^ 64 = search rules in
     let m : b.low < 2 ^ 64 = search rules in
-    sum-carried a.high a.low b.high b.low _ _ l m w.wrapping-add-u64.ensures k.carried.ensures
+    sum-carried a.high a.low b.high b.low _ _ l m w.wrapping_add_u64-low.ensures k.carried-carry.ensures
 
-pub plus-spec : {M : Type 1} → statement M
-plus-spec = tie.close (tie.spec (search rules) (search rules) (search rules) high_fits returns)
+pub plus_spec : {M : Type 1} → statement M
+plus_spec = tie.close (tie.spec (search rules) (search rules) (search rules) high_fits returns)

@@ -36,8 +36,8 @@ returns c =
     (x c % half * (y c % half))
     ∙ sym (whole-product (x c) (y c))
 
-pub product-spec : {M : Type 1} → statement M
-product-spec =
+pub product_spec : {M : Type 1} → statement M
+product_spec =
     tie.close (tie.spec
     (λ c. record { fits = omega (arith, cross c) }) (λ c. record { fits = omega (arith, least c) })
     (λ c. record { fits = omega (arith, middle c) }) (λ c. record { fits = omega (arith, middle c, least c) })
