@@ -95,12 +95,12 @@ pub asked-ring : (ps t : List ℤ) (z : Point) → InAsked ps t z → Ring ps
 asked-ring ps t z e =
     let h = none-clear (in_checks ps t z) e in
     let even : length ps % 2 ≢ 1 = eqb_no (T_false h.0) in
-    let same = same_point_lem (point ps 0) (point ps (segments_of ps)) in
+    let same = same_point (point ps 0) (point ps (segments_of ps)) in
     let ring = or_no (ltb (points_of ps) 4) (not same) (T_false h.1.1.1.1.1.0) in
     record {
       pairs = omega arith;
       some = some-segment LineA ps t (asked_check z ∷ ring_check LineA ps ∷ []) e;
-      closed = same_point (point ps 0) (point ps (segments_of ps)) (T_not-not same ring.1);
+      closed = same_point_lem (point ps 0) (point ps (segments_of ps)) (T_not-not same ring.1);
     }
 
 -- the test over all segments says that z lies on one

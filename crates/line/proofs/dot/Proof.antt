@@ -10,14 +10,14 @@ abbrev formula : MExpr → MExpr → MExpr → MExpr → MExpr
 formula ux uy vx vy = rd w64 (rd w64 (ux ⊗ vx) ⊕ rd w64 (uy ⊗ vy))
 
 -- once the numbers of one product are read, and of both
-abbrev one : tie.After-struct-told2 → tie.Start
+abbrev one : tie.After-struct_told-2-1 → tie.Start
 one c = c.before.before.before.before
 
-abbrev both : tie.After-struct-told4 → tie.Start
+abbrev both : tie.After-struct_told-4-1 → tie.Start
 both c = let first = c.before.before.before.before in one first
 
-pub dot-spec : {M : Type 1} → statement M
-dot-spec =
+pub dot_spec : {M : Type 1} → statement M
+dot_spec =
     tie.close (tie.spec
     (λ c. safe-step 4 formula 0 (smalls (one c).requires.0 (one c).requires.1) tt)
     (λ c. safe-step 4 formula 1 (smalls (both c).requires.0 (both c).requires.1) tt)

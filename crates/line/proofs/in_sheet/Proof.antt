@@ -14,5 +14,5 @@ unfolding between
 returns c =
     let e = to_z-of_z {w = w64} c.ranges.v in λ d. le_z (neg_ℤ (pos limit)) (e d) && le_z (e d) (pos limit)
 
-pub in-sheet-spec : {M : Type 1} → statement M
-in-sheet-spec = tie.close (tie.spec (search rules) returns)
+pub in_sheet_spec : {M : Type 1} → statement M
+in_sheet_spec = tie.close (tie.spec (search rules) returns)

@@ -17,8 +17,8 @@ returns : tie.Need-returns
 returns c =
     let f = fits c.before.before.before.before in
     λ d.
-    (c.before.before.in-sheet.ensures ∙ ap in_sheet (to_z-of_z f.0)) d
-    && (c.in-sheet2.ensures ∙ ap in_sheet (to_z-of_z f.1)) d
+    (c.before.before.in_sheet.ensures ∙ ap in_sheet (to_z-of_z f.0)) d
+    && (c.in_sheet-2.ensures ∙ ap in_sheet (to_z-of_z f.1)) d
 
-pub on-sheet-spec : {M : Type 1} → statement M
-on-sheet-spec = tie.close (tie.spec (search rules) (search rules) returns)
+pub on_sheet_spec : {M : Type 1} → statement M
+on_sheet_spec = tie.close (tie.spec (search rules) (search rules) returns)

@@ -6,7 +6,7 @@ use Rattle.line.proofs.on_sheet_at.Statement.{statement}
 use Rattle.line.proofs.on_sheet_at.Tie as tie
 
 returns : tie.Need-returns
-returns c = c.on-sheet.ensures ∙ ap on_sheet c.before.point_at.ensures
+returns c = c.on_sheet.ensures ∙ ap on_sheet c.before.point_at.ensures
 
-pub on-sheet-at-spec : {M : Type 1} → statement M
-on-sheet-at-spec = tie.close (tie.spec (search rules) (search rules) returns)
+pub on_sheet_at_spec : {M : Type 1} → statement M
+on_sheet_at_spec = tie.close (tie.spec (search rules) (search rules) returns)

@@ -15,10 +15,10 @@ ins : {a b : ℤ} → Abs≤ limit b → Abs≤ limit a → Each In (at_width w6
 ins h k = ins-abs w64 (h & k & nil) tt
 
 -- once the numbers of one difference are read, and of both
-abbrev one : tie.After-struct-told2 → tie.Start
+abbrev one : tie.After-struct_told-2-1 → tie.Start
 one c = c.before.before.before.before
 
-abbrev both : tie.After-struct-told4 → tie.Start
+abbrev both : tie.After-struct_told-4-1 → tie.Start
 both c = let first = c.before.before.before.before in one first
 
 returns : tie.Need-returns

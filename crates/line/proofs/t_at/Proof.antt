@@ -12,10 +12,10 @@ use Rattle.line.proofs.t_at.Tie as tie
 returns : tie.Need-returns
 returns c =
     let u = c.before.before.args.u in
-    result w64 c.dot.type-inv
+    result w64 c.dot.type_inv
     (c.dot.ensures ∙ ap (λ (v : Point). u.x *ℤ v.x +ℤ u.y *ℤ v.y) c.before.step.ensures)
 
-pub t-at-spec : {M : Type 1} → statement M
-t-at-spec =
+pub t_at_spec : {M : Type 1} → statement M
+t_at_spec =
     tie.close (tie.spec
     (search rules) (λ c κs. let h = c.before.requires in (h.1, stepped h.0 h.2 c.step.ensures)) returns)
