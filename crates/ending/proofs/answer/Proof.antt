@@ -28,46 +28,46 @@ no allowance r small = by (eqb (end_in r) 0) refl
         ap (yes_or_no allowance) (is_odd tt tt LineA LineB allowance r (omega (arith, some)))
 
 -- how it ended, as it is read of the number, and what that says of the reply
-module _ (c : tie.After-end-in) where
+module _ (c : tie.After-end_in-end) where
   abbrev allowance : ℕ
   allowance = c.before.args.allowance
 
   abbrev number : ℕ
   number = c.before.args.ending
 
-  ended_at : {e : ℕ} → c.end-in.result ≡ e → end_in number ≡ e
-  ended_at e = sym c.end-in.ensures ∙ e
+  ended_at : {e : ℕ} → c.end_in-end.result ≡ e → end_in number ≡ e
+  ended_at e = sym c.end_in-end.ensures ∙ e
 
   said : {w : Walked Nothing} → walked_in tt tt LineA LineB allowance number ≡ w
       → yes_or_no allowance w ≡ yes_or_no allowance (walked_in tt tt LineA LineB allowance number)
   said e = sym (ap (yes_or_no allowance) e)
 
-returns : tie.Need-returns
+returns : tie.Need-returns-then-end-lt-ENDED
 returns c =
     let k = c.before.before.before in
-    let small : end_in (number k) < 2 = omega (arith, k.end-in.ensures, c.before.before.if1.true) in
-    c.says.ensures ∙ ap (says NO) c.before.visits-in.ensures ∙ sym (no (allowance k) (number k) small)
+    let small : end_in (number k) < 2 = omega (arith, k.end_in-end.ensures, c.before.before.if-end-lt-ENDED.true) in
+    c.says.ensures ∙ ap (says NO) c.before.visits_in.ensures ∙ sym (no (allowance k) (number k) small)
 
-returns-2 : tie.Need-returns-2
+returns-2 : tie.Need-returns-then-end-eq-ENDED
 returns-2 c =
     let t = c.before.before in
     let k = t.before.before in
-    c.says2.ensures
-    ∙ ap (says YES) c.before.visits-in2.ensures
-    ∙ said k (is-ended tt tt LineA LineB (allowance k) (number k) (ended_at k t.if2.true))
+    c.says-then-end-eq-ENDED.ensures
+    ∙ ap (says YES) c.before.visits_in-then-end-eq-ENDED.ensures
+    ∙ said k (is-ended tt tt LineA LineB (allowance k) (number k) (ended_at k t.if-end-eq-ENDED.true))
 
-returns-3 : tie.Need-returns-3
+returns-3 : tie.Need-returns-then-end-eq-SPENT
 returns-3 c =
     let t = c.before in
     let k = t.before.before.before in
-    c.says3.ensures
-    ∙ said k (is-spent tt tt LineA LineB (allowance k) (number k) (ended_at k t.if3.true))
+    c.says-then-end-eq-SPENT.ensures
+    ∙ said k (is-spent tt tt LineA LineB (allowance k) (number k) (ended_at k t.if-end-eq-SPENT.true))
 
 -- what is none of these is a bad row
-bad : (c : tie.Else3) → let s = c.before.before.before.before in bad_row ≤ end_in s.args.ending
+bad : (c : tie.Else-end-eq-SPENT) → let s = c.before.before.before.before in bad_row ≤ end_in s.args.ending
 bad c = search rules
 
-returns-4 : tie.Need-returns-4
+returns-4 : tie.Need-returns-then-end-lt-ENDED
 returns-4 c =
     let t = c.before.before in
     let k = t.before.before.before in
@@ -75,8 +75,8 @@ returns-4 c =
     ∙ ap refuses c.before.refusal.ensures
     ∙ said k (is-bad tt tt LineA LineB (allowance k) (number k) (bad t))
 
-pub answer-spec : {M : Type 1} → statement M
-answer-spec =
+pub answer_spec : {M : Type 1} → statement M
+answer_spec =
     tie.close (tie.spec
     (search rules) (search rules) (search rules) returns (search rules) (search rules) returns-2 (search rules)
     returns-3 (λ c κs. bad c) (search rules) returns-4)

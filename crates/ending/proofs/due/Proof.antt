@@ -8,22 +8,22 @@ use borrow.Author.Rules.{rules}
 use Rattle.ending.proofs.due.Statement.{statement}
 use Rattle.ending.proofs.due.Tie as tie
 
-returns : tie.Need-returns
+returns : tie.Need-returns-in_default
 returns c =
     let k = c.before.before in
     let a = k.before.before.args in
     let e : next a.tally ≡ Spent = cc in
     c.pack.ensures ∙ sym (ap (λ (n : Next). due n a.end) e)
 
-returns-2 : tie.Need-returns-2
+returns-2 : tie.Need-returns-in_default
 returns-2 c =
     let k = c.before.before in
     let v = k.before.before in
-    let e = sym v.visit.ensures ∙ k.counted.given.1 in
-    c.pack2.ensures ∙ sym (ap (λ (n : Next). due n v.before.args.end) e)
+    let e = sym v.visit.ensures ∙ k.counted-1.given.1 in
+    c.pack-2.ensures ∙ sym (ap (λ (n : Next). due n v.before.args.end) e)
 
-pub due-spec : {M : Type 1} → statement M
-due-spec =
+pub due_spec : {M : Type 1} → statement M
+due_spec =
     tie.close (tie.spec
     (λ c κs. search rules) (λ c. search rules) (λ c. search rules) (λ c κs. search rules) returns
     (λ c κs. search rules) returns-2)

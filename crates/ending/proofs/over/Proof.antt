@@ -14,5 +14,5 @@ as_number false = refl
 returns : tie.Need-returns
 returns c = c.pack.ensures ∙ ap (packed c.before.args.visits) (as_number c.before.args.odd)
 
-pub over-spec : {M : Type 1} → statement M
-over-spec = tie.close (tie.spec (λ c. search rules) (λ c κs. search rules) returns)
+pub over_spec : {M : Type 1} → statement M
+over_spec = tie.close (tie.spec (λ c. search rules) (λ c κs. search rules) returns)

@@ -3,5 +3,5 @@ use borrow.Author.Rules.{rules}
 use Rattle.ending.proofs.stopped.Statement.{statement}
 use Rattle.ending.proofs.stopped.Tie as tie
 
-pub stopped-spec : {M : Type 1} → statement M
-stopped-spec = tie.close (tie.spec (λ c κs. search rules) (λ c. cc))
+pub stopped_spec : {M : Type 1} → statement M
+stopped_spec = tie.close (tie.spec (λ c κs. search rules) (λ c. cc))

@@ -8,14 +8,14 @@ use borrow.Author.Rules.{rules}
 use Rattle.numerals.proofs.all_digits.Statement.{statement}
 use Rattle.numerals.proofs.all_digits.Tie as tie
 
-abbrev invariant-loop : tie.invariant-loop
+abbrev invariant-loop : tie.invariant-loop-i
 invariant-loop f i₀ i = (i ≤ length f) × (all_digits f ≡ all_digits (drop i f))
 
-abbrev decreases-loop : tie.decreases-loop
+abbrev decreases-loop : tie.decreases-loop-i
 decreases-loop f i₀ i = length f - i
 
-pub all-digits-spec : {M : Type 1} → statement M
-all-digits-spec =
+pub all_digits_spec : {M : Type 1} → statement M
+all_digits_spec =
     tie.close (tie.spec
     invariant-loop decreases-loop (λ c. (search rules, refl)) (search rules) (search rules) (λ c. search digit-fails) (search rules)
     (search rules) (λ c. (search rules, search digit-passes)) (λ c. search digits-end))

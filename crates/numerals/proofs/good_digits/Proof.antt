@@ -4,8 +4,8 @@ use borrow.Author.Rules.{rules}
 use Rattle.numerals.proofs.good_digits.Statement.{statement}
 use Rattle.numerals.proofs.good_digits.Tie as tie
 
-pub good-digits-spec : {M : Type 1} → statement M
-good-digits-spec =
+pub good_digits_spec : {M : Type 1} → statement M
+good_digits_spec =
     tie.close (tie.spec
     (λ c. search no_digit) (λ c. search many-digits) (search rules) (λ c. search other_byte) (search rules)
     (λ c. search first-digit) (λ c. search one-digit))

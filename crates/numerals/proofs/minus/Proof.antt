@@ -17,11 +17,11 @@ small (suc n) h = record { sfits = omega arith }
 less : (v : ℕ) → v < 10000000000 → pos 0 -ℤ to_z w64 v ≡ neg_ℤ (pos v)
 less v h = ap (λ z. pos 0 -ℤ z) (to_z_pos w64 {n = v} (omega arith)) ∙ +ℤ_idl (neg_ℤ (pos v))
 
-sub-result : tie.Need-overflow-sub-result
+sub-result : tie.Need-overflow_sub-result
 sub-result c = rw (less c.args.v c.requires) (small c.args.v c.requires)
 
 returns : tie.Need-returns
 returns c = rw (less c.args.v c.requires) (to_z-of_z {w = w64} (small c.args.v c.requires))
 
-pub minus-spec : {M : Type 1} → statement M
-minus-spec = tie.close (tie.spec (search rules) sub-result returns)
+pub minus_spec : {M : Type 1} → statement M
+minus_spec = tie.close (tie.spec (search rules) sub-result returns)

@@ -6,8 +6,8 @@ use borrow.Author.Rules.{rules, sfits_of}
 use Rattle.numerals.proofs.negative.Statement.{statement}
 use Rattle.numerals.proofs.negative.Tie as tie
 
-pub negative-spec : {M : Type 1} → statement M
-negative-spec =
+pub negative_spec : {M : Type 1} → statement M
+negative_spec =
     tie.close (tie.spec
     (search rules) (λ c. search not_negative) (λ c. search good-some) (λ c. search minus-zero) (λ c κs. search passed)
     (search rules) (λ c. search (minus-read, to_z-of_z, sfits_of)))

@@ -5,8 +5,8 @@ use borrow.Author.Rules.{rules, sfits_of}
 use Rattle.numerals.proofs.numeral.Statement.{statement}
 use Rattle.numerals.proofs.numeral.Tie as tie
 
-pub numeral-spec : {M : Type 1} → statement M
-numeral-spec =
+pub numeral_spec : {M : Type 1} → statement M
+numeral_spec =
     tie.close (tie.spec
     (λ c. search no_bytes) (search rules) (search rules) (search rules) (search rules) (search rules)
     (λ c. search at-minus) (search rules) (λ c. search not-digits) (λ c κs. search passed) (search rules)

@@ -9,5 +9,5 @@ use Rattle.numerals.proofs.plus.Tie as tie
 returns : tie.Need-returns
 returns c = to_z_pos w64 (omega arith)
 
-pub plus-spec : {M : Type 1} → statement M
-plus-spec = tie.close (tie.spec (search rules) returns)
+pub plus_spec : {M : Type 1} → statement M
+plus_spec = tie.close (tie.spec (search rules) returns)

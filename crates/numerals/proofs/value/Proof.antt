@@ -10,26 +10,26 @@ use borrow.Author.Rules.{rules}
 use Rattle.numerals.proofs.value.Statement.{statement}
 use Rattle.numerals.proofs.value.Tie as tie
 
-abbrev invariant-loop : tie.invariant-loop
+abbrev invariant-loop : tie.invariant-loop-i
 invariant-loop f v₀ i₀ v i =
     (i ≤ length f) × (all_digits (drop i f) ≡ true) × (value_from 0 f ≡ value_from v (drop i f))
 
-abbrev decreases-loop : tie.decreases-loop
+abbrev decreases-loop : tie.decreases-loop-i
 decreases-loop f v₀ i₀ v i = length f - i
 
-step-at : (c : tie.In-loop invariant-loop decreases-loop) →
-    Step c.before.before.args.f.now c.before.loop.v c.before.loop.i
+step-at : (c : tie.In-loop-i invariant-loop decreases-loop) →
+    Step c.before.before.args.f.now c.before.loop-i.v c.before.loop-i.i
 step-at c =
     let at = c.before in
-    let inv = at.loop.invariant in
+    let inv = at.loop-i.invariant in
     let f = at.before.args.f.now in
-    step f at.loop.v at.loop.i at.before.requires c.loop-test.true inv.1 inv.2
+    step f at.loop-i.v at.loop-i.i at.before.requires c.loop-i-test.true inv.1 inv.2
 
 returns : tie.Need-returns invariant-loop decreases-loop
 returns c =
     let at = c.before in
     let f = at.before.args.f.now in
-    let all = sym (at.loop.invariant.2 ∙ value-end at.loop.v f at.loop.i c.loop-test.false) in
+    let all = sym (at.loop-i.invariant.2 ∙ value-end at.loop-i.v f at.loop-i.i c.loop-i-test.false) in
     let less = good-value f at.before.requires in
     (all, omega arith)
 

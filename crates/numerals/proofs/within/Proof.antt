@@ -4,8 +4,8 @@ use Rattle.numerals.proofs.Digits.{unread, outside, inside}
 use Rattle.numerals.proofs.within.Statement.{statement}
 use Rattle.numerals.proofs.within.Tie as tie
 
-pub within-spec : {M : Type 1} → statement M
-within-spec =
+pub within_spec : {M : Type 1} → statement M
+within_spec =
     tie.close (tie.spec
     (search rules) (search rules) (search rules) (λ c. search unread) (search rules)
     (λ c. search (outside, sfits_of)) (λ c. search (inside, sfits_of)))

@@ -22,36 +22,36 @@ use Rattle.reach.proofs.apart.Statement.{statement}
 use Rattle.reach.proofs.apart.Tie as tie
 
 -- the step that was called for is small, and its magnitudes are the machine's
-module _ (c : tie.After-step) where
-  small : Small c.step.result
-  small = stepped c.before.requires.0 c.before.requires.1 c.step.ensures
+module _ (c : tie.After-step-u) where
+  small : Small c.step-u.result
+  small = stepped c.before.requires.0 c.before.requires.1 c.step-u.ensures
 
   abbrev u : Point
   u = step c.before.args.a c.before.args.b
 
-  x-read : to_z w64 (of_z w64 c.step.result.x) ≡ u.x
-  x-read = stored small.x-in tt ∙ ap (λ (p : Point). p.x) c.step.ensures
+  x-read : to_z w64 (of_z w64 c.step-u.result.x) ≡ u.x
+  x-read = stored small.x-in tt ∙ ap (λ (p : Point). p.x) c.step-u.ensures
 
-  y-read : to_z w64 (of_z w64 c.step.result.y) ≡ u.y
-  y-read = stored small.y-in tt ∙ ap (λ (p : Point). p.y) c.step.ensures
+  y-read : to_z w64 (of_z w64 c.step-u.result.y) ≡ u.y
+  y-read = stored small.y-in tt ∙ ap (λ (p : Point). p.y) c.step-u.ensures
 
 -- where the step was made, seen from where both magnitudes are known
-abbrev made : tie.After-magnitude2 → tie.After-step
+abbrev made : tie.After-magnitude-2 → tie.After-step-u
 made c = c.before.before.before.before
 
 -- the magnitudes of the step
-module _ (c : tie.After-magnitude2) where
+module _ (c : tie.After-magnitude-2) where
   of-x : c.before.before.magnitude.result ≡ nat_abs (u (made c)).x
   of-x = c.before.before.magnitude.ensures ∙ ap nat_abs (x-read (made c))
 
-  of-y : c.magnitude2.result ≡ nat_abs (u (made c)).y
-  of-y = c.magnitude2.ensures ∙ ap nat_abs (y-read (made c))
+  of-y : c.magnitude-2.result ≡ nat_abs (u (made c)).y
+  of-y = c.magnitude-2.ensures ∙ ap nat_abs (y-read (made c))
 
 farther-requires : tie.Need-farther-requires
 farther-requires c κs =
     let s = (made c).before in
-    let w = step_small s.pre.0 s.pre.1 in
-    (magnitude-roomy (of-x c) w.x-in tt, magnitude-roomy (of-y c) w.y-in tt, reach-roomy s.pre.2, omega arith)
+    let w = step_small s.requires.0 s.requires.1 in
+    (magnitude-roomy (of-x c) w.x-in tt, magnitude-roomy (of-y c) w.y-in tt, reach-roomy s.requires.2, omega arith)
 
 returns : tie.Need-returns
 returns c =
@@ -63,8 +63,8 @@ returns c =
     ∙ of-magnitudes w.x w.y s.args.reach {v = pos 1} (omega zarith)
     ∙ ap (λ (z : ℤ). lt_z z (size² w)) (one-r (pos s.args.reach))
 
-pub apart-spec : {M : Type 1} → statement M
-apart-spec =
+pub apart_spec : {M : Type 1} → statement M
+apart_spec =
     tie.close (tie.spec
     (search rules) (λ c κs. stored-abs (abs-weaken (small c.before).x-in tt) tt)
     (λ c κs. stored-abs (abs-weaken (small c.before.before.before).y-in tt) tt) farther-requires returns)

@@ -9,15 +9,15 @@ use Rattle.rules.specs.Sheet.{farthest}
 use Rattle.reach.proofs.distance_fits.Statement.{statement}
 use Rattle.reach.proofs.distance_fits.Tie as tie
 
-returns : tie.Need-returns
+returns : tie.Need-returns-then-d-ge0
 returns c =
     let e = to_z-of_z {w = w64} c.before.ranges.d in
-    sym (λ i. (sym (λ j. le_z (pos 0) (e j)) ∙ c.if1.true) i && le_z (sym e i) (pos farthest))
+    sym (λ i. (sym (λ j. le_z (pos 0) (e j)) ∙ c.if-d-ge0.true) i && le_z (sym e i) (pos farthest))
 
-returns-2 : tie.Need-returns-2
+returns-2 : tie.Need-returns-else-d-ge0
 returns-2 c =
     let e = to_z-of_z {w = w64} c.before.ranges.d in
-    c.if1.false ∙ sym (λ i. (sym (λ j. le_z (pos 0) (e j)) ∙ c.if1.false) i && le_z c.before.args.d (pos farthest))
+    c.if-d-ge0.false ∙ sym (λ i. (sym (λ j. le_z (pos 0) (e j)) ∙ c.if-d-ge0.false) i && le_z c.before.args.d (pos farthest))
 
-pub distance-fits-spec : {M : Type 1} → statement M
-distance-fits-spec = tie.close (tie.spec returns returns-2)
+pub distance_fits_spec : {M : Type 1} → statement M
+distance_fits_spec = tie.close (tie.spec returns returns-2)

@@ -27,28 +27,28 @@ strip-fits : (c : tie.Start) → Fit c.args.r
 strip-fits c = (search rules, search rules, search rules, search rules)
 
 -- the places of the code: c is asked for, then t, each with its shortfall, then |u|^2
-abbrev start : tie.After-shortfall → tie.Start
+abbrev start : tie.After-shortfall-gc → tie.Start
 start c = c.before.before.before.before
 
-abbrev first : tie.After-shortfall2 → tie.After-shortfall
+abbrev first : tie.After-shortfall-gt → tie.After-shortfall-gc
 first c = c.before.before.before.before
 
-shortfall-requires : tie.Need-shortfall-requires
+shortfall-requires : tie.Need-shortfall-gc-requires
 shortfall-requires c κs =
     let s = c.before.before.before in
     let f = strip-fits s in (
       subst (λ (x : ℤ). x ≤ℤ pos 0) (sym (to_z-of_z f.0)) s.requires.0.cmin-low,
       subst (λ (x : ℤ). pos 0 ≤ℤ x) (sym (to_z-of_z f.1)) s.requires.0.cmax-high,
-      stored-abs (abs-at (sym c.before.before.c-at.ensures) (c-wide s.requires.1 s.requires.2 s.requires.3)) tt,
+      stored-abs (abs-at (sym c.before.before.c_at.ensures) (c-wide s.requires.1 s.requires.2 s.requires.3)) tt,
     )
 
-shortfall-requires-2 : tie.Need-shortfall-requires-2
+shortfall-requires-2 : tie.Need-shortfall-gt-requires
 shortfall-requires-2 c κs =
     let s = start c.before.before.before in
     let f = strip-fits s in (
-      subst (λ (x : ℤ). x ≤ℤ pos 0) (sym (to_z-of_z f.2)) s.pre.0.tmin-low,
-      subst (λ (x : ℤ). pos 0 ≤ℤ x) (sym (to_z-of_z f.3)) s.pre.0.tmax-high,
-      stored-abs (abs-at (sym c.before.before.t-at.ensures) (t-wide s.pre.1 s.pre.2 s.pre.3)) tt,
+      subst (λ (x : ℤ). x ≤ℤ pos 0) (sym (to_z-of_z f.2)) s.requires.0.tmin-low,
+      subst (λ (x : ℤ). pos 0 ≤ℤ x) (sym (to_z-of_z f.3)) s.requires.0.tmax-high,
+      stored-abs (abs-at (sym c.before.before.t_at.ensures) (t-wide s.requires.1 s.requires.2 s.requires.3)) tt,
     )
 
 -- both shortfalls, as they are read back
@@ -58,17 +58,17 @@ gc s = shortfall s.args.r.cmin s.args.r.cmax (c_at s.args.s s.args.u s.args.z)
 abbrev gt : tie.Start → ℤ
 gt s = shortfall s.args.r.tmin s.args.r.tmax (t_at s.args.s s.args.u s.args.z)
 
-c-short : (c : tie.After-shortfall) → pos c.shortfall.result ≡ gc (start c)
+c-short : (c : tie.After-shortfall-gc) → pos c.shortfall-gc.result ≡ gc (start c)
 c-short c =
     let f = strip-fits (start c) in
-    let e = result w64 c.before.before.before.c-at.type-inv c.before.before.before.c-at.ensures in
-    c.shortfall.ensures ∙ (λ i. shortfall (to_z-of_z f.0 i) (to_z-of_z f.1 i) (e i))
+    let e = result w64 c.before.before.before.c_at.type_inv c.before.before.before.c_at.ensures in
+    c.shortfall-gc.ensures ∙ (λ i. shortfall (to_z-of_z f.0 i) (to_z-of_z f.1 i) (e i))
 
-t-short : (c : tie.After-shortfall2) → pos c.shortfall2.result ≡ gt (start (first c))
+t-short : (c : tie.After-shortfall-gt) → pos c.shortfall-gt.result ≡ gt (start (first c))
 t-short c =
     let f = strip-fits (start (first c)) in
-    let e = result w64 c.before.before.before.t-at.type-inv c.before.before.before.t-at.ensures in
-    c.shortfall2.ensures ∙ (λ i. shortfall (to_z-of_z f.2 i) (to_z-of_z f.3 i) (e i))
+    let e = result w64 c.before.before.before.t_at.type_inv c.before.before.before.t_at.ensures in
+    c.shortfall-gt.ensures ∙ (λ i. shortfall (to_z-of_z f.2 i) (to_z-of_z f.3 i) (e i))
 
 farther-requires : tie.Need-farther-requires
 farther-requires c κs =
@@ -88,16 +88,16 @@ returns c D e =
     let z = c.before in
     let k = z.before in
     let s = start (first k) in
-    let u = s.pre.2 in
+    let u = s.requires.2 in
     let v = z.size2.ensures in
-    let said = of-magnitudes (pos (first k).shortfall.result) (pos k.shortfall2.result) s.args.reach
+    let said = of-magnitudes (pos (first k).shortfall-gc.result) (pos k.shortfall-gt.result) s.args.reach
     (size_above u v) in
     let gc = c-short (first k) in
     let gt = t-short k in
     c.farther.ensures ∙ said ∙ (λ i. lt_z (e i *ℤ size-stored u v i) (gc i *ℤ gc i +ℤ gt i *ℤ gt i))
 
-pub far-along-spec : {M : Type 1} → statement M
-far-along-spec =
+pub far_along_spec : {M : Type 1} → statement M
+far_along_spec =
     tie.close (tie.spec
     (search rules) shortfall-requires (search rules) shortfall-requires-2 (search rules)
     (λ c. size-cast (start (first c.before)).requires.2 c.size2.ensures) farther-requires returns)

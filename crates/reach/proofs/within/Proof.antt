@@ -24,15 +24,15 @@ use Rattle.reach.proofs.within.Statement.{statement}
 use Rattle.reach.proofs.within.Tie as tie
 
 -- the places of the code: once t is known, |u|^2, and c
-abbrev start : tie.After-t-at → tie.Start
+abbrev start : tie.After-t_at-t → tie.Start
 start c = c.before.before
 
-abbrev sized : tie.After-size2 → tie.After-t-at
+abbrev sized : tie.After-size2-v → tie.After-t_at-t
 sized c = c.before.before
 
 -- the step of the segment, and t, |u|^2 and c as they are read back
-step-is-small : (c : tie.After-step) → Small c.step.result
-step-is-small c = stepped c.before.requires.1 c.before.requires.2 c.step.ensures
+step-is-small : (c : tie.After-step-u) → Small c.step-u.result
+step-is-small c = stepped c.before.requires.1 c.before.requires.2 c.step-u.ensures
 
 abbrev u : tie.Start → Point
 u s = step s.args.a s.args.b
@@ -40,38 +40,38 @@ u s = step s.args.a s.args.b
 abbrev t : tie.Start → ℤ
 t s = t_at s.args.a (u s) s.args.z
 
-t-read : (c : tie.After-t-at) → to_z w64 (of_z w64 c.t-at.result) ≡ t (start c)
+t-read : (c : tie.After-t_at-t) → to_z w64 (of_z w64 c.t_at-t.result) ≡ t (start c)
 t-read c =
     let s = start c in
-    let e = ap (λ (u : Point). t_at s.args.a u s.args.z) c.before.step.ensures in
-    result w64 c.t-at.type-inv (c.t-at.ensures ∙ e)
+    let e = ap (λ (u : Point). t_at s.args.a u s.args.z) c.before.step-u.ensures in
+    result w64 c.t_at-t.type_inv (c.t_at-t.ensures ∙ e)
 
-size-read : (c : tie.After-size2) → to_z w64 (of_z w64 c.size2.result) ≡ size² (u (start (sized c)))
+size-read : (c : tie.After-size2-v) → to_z w64 (of_z w64 c.size2-v.result) ≡ size² (u (start (sized c)))
 size-read c =
-    result w64 c.size2.type-inv (c.size2.ensures ∙ ap (λ (u : Point). size² u) (sized c).before.step.ensures)
+    result w64 c.size2-v.type_inv (c.size2-v.ensures ∙ ap (λ (u : Point). size² u) (sized c).before.step-u.ensures)
 
 -- z is past the start
-past-start : (c : tie.Else1) → le_z (t (start c.before)) (pos 0) ≡ false
-past-start c = sym (λ i. le_z (t-read c.before i) (pos 0)) ∙ c.if1.false
+past-start : (c : tie.Else-t-le0) → le_z (t (start c.before)) (pos 0) ≡ false
+past-start c = sym (λ i. le_z (t-read c.before i) (pos 0)) ∙ c.if-t-le0.false
 
-returns : tie.Need-returns
+returns : tie.Need-returns-then-t-le0
 returns c D e =
     let p = c.before.before in
     let s = start p in
-    let early = sym (λ i. le_z (t-read p i) (pos 0)) ∙ c.before.if1.true in
+    let early = sym (λ i. le_z (t-read p i) (pos 0)) ∙ c.before.if-t-le0.true in
     ap not (c.apart.ensures ∙ (λ i. lt_z (e i) (size² (step s.args.a s.args.z))))
     ∙ within-start s.args.z s.args.a s.args.b D early
 
-returns-2 : tie.Need-returns-2
+returns-2 : tie.Need-returns-then-v-t
 returns-2 c D e =
     let p = c.before.before in
     let s = start (sized p) in
-    let far = sym (λ i. le_z (size-read p i) (t-read (sized p) i)) ∙ c.before.if2.true in
-    ap not (c.apart2.ensures ∙ (λ i. lt_z (e i) (size² (step s.args.b s.args.z))))
+    let far = sym (λ i. le_z (size-read p i) (t-read (sized p) i)) ∙ c.before.if-v-t.true in
+    ap not (c.apart-then-v-t.ensures ∙ (λ i. lt_z (e i) (size² (step s.args.b s.args.z))))
     ∙ within_end s.args.z s.args.a s.args.b D (past-start p.before) far
 
 -- along the segment: c's magnitude, as it is compared
-abbrev along : tie.After-magnitude → tie.After-size2
+abbrev along : tie.After-magnitude → tie.After-size2-v
 along c = c.before.before.before
 
 beside : (c : tie.After-magnitude) → let s = start (sized (along c)) in
@@ -79,50 +79,50 @@ beside : (c : tie.After-magnitude) → let s = start (sized (along c)) in
 beside c =
     let p = sized (along c) in
     let s = start p in
-    let said = ap (λ (u : Point). c_at s.args.a u s.args.z) p.before.step.ensures in
-    c.magnitude.ensures ∙ ap nat_abs (result w64 c.before.c-at.type-inv (c.before.c-at.ensures ∙ said))
+    let said = ap (λ (u : Point). c_at s.args.a u s.args.z) p.before.step-u.ensures in
+    c.magnitude.ensures ∙ ap nat_abs (result w64 c.before.c_at.type_inv (c.before.c_at.ensures ∙ said))
 
 magnitude-requires : tie.Need-magnitude-requires
 magnitude-requires c κs =
     let p = sized c.before.before in
-    let h = (start p).pre in
-    stored-abs (abs-weaken (abs-at (sym c.c-at.ensures) (c-wide h.1 (step-is-small p.before) h.0)) tt) tt
+    let h = (start p).requires in
+    stored-abs (abs-weaken (abs-at (sym c.c_at.ensures) (c-wide h.1 (step-is-small p.before) h.0)) tt) tt
 
 farther-requires : tie.Need-farther-requires
 farther-requires c κs =
     let k = along c in
     let p = sized k in
-    let h = (start p).pre in (
+    let h = (start p).requires in (
       magnitude-roomy (beside c) (c-wide h.1 (step_small h.1 h.2) h.0) tt,
       omega arith,
       reach-roomy h.3,
-      size-roomy (step-is-small p.before) k.size2.ensures,
+      size-roomy (step-is-small p.before) k.size2-v.ensures,
     )
 
-returns-3 : tie.Need-returns-3
+returns-3 : tie.Need-returns
 returns-3 c D e =
     let m = c.before in
     let k = along m in
     let p = sized k in
     let s = start p in
     let w = step-is-small p.before in
-    let v = k.size2.ensures in
+    let v = k.size2-v.ensures in
     let beside-z = c_at s.args.a (u s) s.args.z in
-    let near = sym (λ i. le_z (size-read k i) (t-read p i)) ∙ m.before.before.if2.false in
+    let near = sym (λ i. le_z (size-read k i) (t-read p i)) ∙ m.before.before.if-v-t.false in
     let far = c.farther.ensures
-    ∙ (λ i. ltb (s.args.reach * nat_abs (to_z w64 (of_z w64 k.size2.result))) (beside m i * beside m i + 0))
+    ∙ (λ i. ltb (s.args.reach * nat_abs (to_z w64 (of_z w64 k.size2-v.result))) (beside m i * beside m i + 0))
     ∙ of-magnitudes beside-z (pos 0) s.args.reach (size_above w v)
     ∙ (λ i. lt_z (e i *ℤ size-read k i) (beside-z *ℤ beside-z +ℤ pos 0)) in
     ap not far ∙ within-along s.args.z s.args.a s.args.b D (past-start k.before) near
 
-pub within-spec : {M : Type 1} → statement M
-within-spec =
+pub within_spec : {M : Type 1} → statement M
+within_spec =
     tie.close (tie.spec
     (search rules) (λ c κs. (c.before.requires.1, step-is-small c, c.before.requires.0))
     (λ c κs. let p = (start c.before).requires in (p.1, p.0, p.3)) returns
     (λ c κs. step-is-small c.before.before)
     (λ c κs. let p = (start (sized c.before)).requires in (search rules, search rules, p.3)) returns-2
-    (λ c κs. let p = sized c.before in ((start p).pre.1, step-is-small p.before, (start p).pre.0))
+    (λ c κs. let p = sized c.before in ((start p).requires.1, step-is-small p.before, (start p).requires.0))
     magnitude-requires
-    (λ c. let k = along c in size-cast (step-is-small (sized k).before) k.size2.ensures) farther-requires
+    (λ c. let k = along c in size-cast (step-is-small (sized k).before) k.size2-v.ensures) farther-requires
     returns-3)

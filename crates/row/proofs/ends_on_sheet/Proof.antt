@@ -5,7 +5,7 @@ use Rattle.row.proofs.ends_on_sheet.Statement.{statement}
 use Rattle.row.proofs.ends_on_sheet.Tie as tie
 
 returns : tie.Need-returns
-returns c = λ d. c.before.on-sheet-at.ensures d && c.on-sheet-at2.ensures d
+returns c = λ d. c.before.on_sheet_at.ensures d && c.on_sheet_at-2.ensures d
 
-pub ends-on-sheet-spec : {M : Type 1} → statement M
-ends-on-sheet-spec = tie.close (tie.spec (search rules) (search rules) (search rules) returns)
+pub ends_on_sheet_spec : {M : Type 1} → statement M
+ends_on_sheet_spec = tie.close (tie.spec (search rules) (search rules) (search rules) returns)

@@ -35,41 +35,41 @@ module _ (s : tie.Start) where
   of_more = lt_z (pos s.args.first) s.args.r.split && lt_z s.args.r.split (pos s.args.last)
 
   parts : said ≡ frame && rest
-  parts = between-parts ps s.args.r s.args.first s.args.last s.pre.1.0 s.pre.1.1
+  parts = between-parts ps s.args.r s.args.first s.args.last s.requires.1.0 s.requires.1.1
 
-returns : tie.Need-returns
+returns : tie.Need-returns-then-not-frame_good
 returns c =
     let s = c.before.before in
-    let e : frame s ≡ false = sym c.before.frame-good.ensures ∙ not-true _ c.if1.true in
+    let e : frame s ≡ false = sym c.before.frame_good.ensures ∙ c.if-not-frame_good.true in
     sym (parts s ∙ (λ d. e d && rest s))
 
 -- the frame is good: the rest decides
-left : (c : tie.Else1) → said c.before.before ≡ rest c.before.before
+left : (c : tie.Else-not-frame_good) → said c.before.before ≡ rest c.before.before
 left c =
     let s = c.before.before in
-    let e : frame s ≡ true = sym c.before.frame-good.ensures ∙ not-false _ c.if1.false in
+    let e : frame s ≡ true = sym c.before.frame_good.ensures ∙ c.if-not-frame_good.false in
     parts s ∙ (λ d. e d && rest s)
 
-returns-2 : tie.Need-returns-2
+returns-2 : tie.Need-returns-then-last-first
 returns-2 c =
     let k = c.before.before.before in
     let s = k.before.before.before in
-    let l = le-leb s.args.last (s.args.first + 1) k.if2.true in
+    let l = le-leb s.args.last (s.args.first + 1) k.if-last-first.true in
     let a = c.before.before.point_at.ensures in
-    let b = c.before.point-at2.ensures in
-    c.leaf-good.ensures
+    let b = c.before.point_at-then-last-first.ensures in
+    c.leaf_good.ensures
     ∙ (λ d. eq_z s.args.r.split no_split && not (same_point (a d) (b d)))
     ∙ sym (left k.before ∙ (λ d. cond (l d) (of_leaf s) (of_more s)))
 
-returns-3 : tie.Need-returns-3
+returns-3 : tie.Need-returns-then-not-frame_good
 returns-3 c =
     let k = c.before in
     let s = k.before.before.before in
-    let l = lt-leb s.args.last (s.args.first + 1) k.if2.false in
-    c.splits-inside.ensures ∙ sym (left k.before ∙ (λ d. cond (l d) (of_leaf s) (of_more s)))
+    let l = lt-leb s.args.last (s.args.first + 1) k.if-last-first.false in
+    c.splits_inside.ensures ∙ sym (left k.before ∙ (λ d. cond (l d) (of_leaf s) (of_more s)))
 
-pub good-between-spec : {M : Type 1} → statement M
-good-between-spec =
+pub good_between_spec : {M : Type 1} → statement M
+good_between_spec =
     tie.close (tie.spec
     (search rules) returns (search rules) (search rules) (search rules) (search rules) returns-2 (search rules)
     returns-3)

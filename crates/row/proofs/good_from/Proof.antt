@@ -11,20 +11,20 @@ use Rattle.row.proofs.good_from.Tie as tie
 abbrev asked : tie.Start → Bool
 asked s = on_sheet (point s.args.points.now s.args.last)
 
-on-said : (c : tie.After-on-sheet) → c.on-sheet.result ≡ asked c.before.before
-on-said c = c.on-sheet.ensures ∙ ap on_sheet c.before.point_at.ensures
+on-said : (c : tie.After-on_sheet) → c.on_sheet.result ≡ asked c.before.before
+on-said c = c.on_sheet.ensures ∙ ap on_sheet c.before.point_at.ensures
 
-good-between-requires : tie.Need-good-between-requires
-good-between-requires c κs =
+good_between-requires : tie.Need-good_between-requires
+good_between-requires c κs =
     let p = c.before.before.before.requires in
-    let on = T_true (sym (on-said c.before) ∙ c.if1.true) in
+    let on = T_true (sym (on-said c.before) ∙ c.if-on_sheet.true) in
     (p.0, (p.1, on))
 
-returns-2 : tie.Need-returns-2
+returns-2 : tie.Need-returns-else-on_sheet
 returns-2 c =
     let a = c.before.before.before.args in
-    let off : asked c.before.before.before ≡ false = sym (on-said c.before) ∙ c.if1.false in
-    c.if1.false ∙ sym (end-off a.points.now a.r a.first a.last off)
+    let off : asked c.before.before.before ≡ false = sym (on-said c.before) ∙ c.if-on_sheet.false in
+    c.if-on_sheet.false ∙ sym (end-off a.points.now a.r a.first a.last off)
 
-pub good-from-spec : {M : Type 1} → statement M
-good-from-spec = tie.close (tie.spec (search rules) (search rules) good-between-requires (λ c. search rules) returns-2)
+pub good_from_spec : {M : Type 1} → statement M
+good_from_spec = tie.close (tie.spec (search rules) (search rules) good_between-requires (λ c. search rules) returns-2)

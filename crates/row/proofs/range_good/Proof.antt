@@ -24,20 +24,20 @@ last-same : (s : tie.Start)
 last-same s =
     let f : SFits w64 s.args.r.last = search rules in eq-bits w64 f (record { sfits = omega (arith, s.requires) })
 
-abbrev start : tie.After-struct-told2 → tie.Start
+abbrev start : tie.After-struct_told-then-r-first-1 → tie.Start
 start c = c.before.before.before.before.before
 
-returns : tie.Need-returns
+returns : tie.Need-returns-then-r-first
 returns c =
     let s = start c in
-    let e = sym (first-same s) ∙ eq-eqb _ _ c.before.before.if1.true in
+    let e = sym (first-same s) ∙ eq-eqb _ _ c.before.before.if-r-first.true in
     last-same s ∙ sym (λ d. e d && eq_z s.args.r.last (pos s.args.last))
 
-returns-2 : tie.Need-returns-2
+returns-2 : tie.Need-returns-else-r-first
 returns-2 c =
     let s = c.before.before.before in
-    let no = ne_eqb _ _ c.if1.false in
+    let no = ne_eqb _ _ c.if-r-first.false in
     no ∙ sym (λ d. (sym (first-same s) ∙ no) d && eq_z s.args.r.last (pos s.args.last))
 
-pub range-good-spec : {M : Type 1} → statement M
-range-good-spec = tie.close (tie.spec (search rules) (search rules) returns returns-2)
+pub range_good_spec : {M : Type 1} → statement M
+range_good_spec = tie.close (tie.spec (search rules) (search rules) returns returns-2)

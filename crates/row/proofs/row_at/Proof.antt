@@ -20,21 +20,21 @@ returns c =
     let c2 = c3.before in
     let c1 = c2.before in
     λ d. record {
-      first = result w64 c1.number_at.type-inv c1.number_at.ensures d;
-      last = result w64 c2.number-at2.type-inv c2.number-at2.ensures d;
-      split = result w64 c3.number-at3.type-inv c3.number-at3.ensures d;
-      cmin = result w64 c4.number-at4.type-inv c4.number-at4.ensures d;
-      cmax = result w64 c5.number-at5.type-inv c5.number-at5.ensures d;
-      tmin = result w64 c6.number-at6.type-inv c6.number-at6.ensures d;
-      tmax = result w64 c7.number-at7.type-inv c7.number-at7.ensures d;
-      xmin = result w64 c8.number-at8.type-inv c8.number-at8.ensures d;
-      xmax = result w64 c9.number-at9.type-inv c9.number-at9.ensures d;
-      ymin = result w64 c10.number-at10.type-inv c10.number-at10.ensures d;
-      ymax = result w64 c.number-at11.type-inv c.number-at11.ensures d;
+      first = result w64 c1.number_at.type_inv c1.number_at.ensures d;
+      last = result w64 c2.number_at-2.type_inv c2.number_at-2.ensures d;
+      split = result w64 c3.number_at-3.type_inv c3.number_at-3.ensures d;
+      cmin = result w64 c4.number_at-4.type_inv c4.number_at-4.ensures d;
+      cmax = result w64 c5.number_at-5.type_inv c5.number_at-5.ensures d;
+      tmin = result w64 c6.number_at-6.type_inv c6.number_at-6.ensures d;
+      tmax = result w64 c7.number_at-7.type_inv c7.number_at-7.ensures d;
+      xmin = result w64 c8.number_at-8.type_inv c8.number_at-8.ensures d;
+      xmax = result w64 c9.number_at-9.type_inv c9.number_at-9.ensures d;
+      ymin = result w64 c10.number_at-10.type_inv c10.number_at-10.ensures d;
+      ymax = result w64 c.number_at-11.type_inv c.number_at-11.ensures d;
     }
 
-pub row-at-spec : {M : Type 1} → statement M
-row-at-spec =
+pub row_at_spec : {M : Type 1} → statement M
+row_at_spec =
     tie.close (tie.spec
     (search rules) (search rules) (search rules) (search rules) (search rules) (search rules) (search rules)
     (search rules) (search rules) (search rules) (search rules) returns)

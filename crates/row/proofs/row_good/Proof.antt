@@ -11,20 +11,20 @@ use Rattle.row.proofs.row_good.Tie as tie
 abbrev asked : tie.Start → Bool
 asked s = on_sheet (point s.args.points.now s.args.first)
 
-on-said : (c : tie.After-on-sheet) → c.on-sheet.result ≡ asked c.before.before
-on-said c = c.on-sheet.ensures ∙ ap on_sheet c.before.point_at.ensures
+on-said : (c : tie.After-on_sheet) → c.on_sheet.result ≡ asked c.before.before
+on-said c = c.on_sheet.ensures ∙ ap on_sheet c.before.point_at.ensures
 
-good-from-requires : tie.Need-good-from-requires
-good-from-requires c κs =
+good_from-requires : tie.Need-good_from-requires
+good_from-requires c κs =
     let p = c.before.before.before.requires in
-    let on = T_true (sym (on-said c.before) ∙ c.if1.true) in
+    let on = T_true (sym (on-said c.before) ∙ c.if-on_sheet.true) in
     (p, on)
 
-returns-2 : tie.Need-returns-2
+returns-2 : tie.Need-returns-else-on_sheet
 returns-2 c =
     let a = c.before.before.before.args in
-    let off : asked c.before.before.before ≡ false = sym (on-said c.before) ∙ c.if1.false in
-    c.if1.false ∙ sym (start-off a.points.now a.r a.first a.last off)
+    let off : asked c.before.before.before ≡ false = sym (on-said c.before) ∙ c.if-on_sheet.false in
+    c.if-on_sheet.false ∙ sym (start-off a.points.now a.r a.first a.last off)
 
-pub row-good-spec : {M : Type 1} → statement M
-row-good-spec = tie.close (tie.spec (search rules) (search rules) good-from-requires (λ c. search rules) returns-2)
+pub row_good_spec : {M : Type 1} → statement M
+row_good_spec = tie.close (tie.spec (search rules) (search rules) good_from-requires (λ c. search rules) returns-2)

@@ -40,5 +40,5 @@ returns c =
     let hi = to_z-of_z {w = w64} c.ranges.hi in
     (λ i. le_z low (lo i) && le_z (lo i) (hi i) && le_z (hi i) high) ∙ three-suffice c.args.lo c.args.hi
 
-pub side-good-spec : {M : Type 1} → statement M
-side-good-spec = tie.close (tie.spec (search rules) returns)
+pub side_good_spec : {M : Type 1} → statement M
+side_good_spec = tie.close (tie.spec (search rules) returns)

@@ -7,10 +7,10 @@ use borrow.Author.Rules.{rules}
 use Rattle.row.proofs.split_of.Statement.{statement}
 use Rattle.row.proofs.split_of.Tie as tie
 
-cast-result : tie.Need-overflow-cast-result
+cast-result : tie.Need-overflow_cast-result
 cast-result c =
     let s = c.before.before in
     let f : SFits w64 s.args.r.split = search rules in nat-cast f tt (to_z-of_z f) s.requires
 
-pub split-of-spec : {M : Type 1} → statement M
-split-of-spec = tie.close (tie.spec cast-result (λ c. search rules))
+pub split_of_spec : {M : Type 1} → statement M
+split_of_spec = tie.close (tie.spec cast-result (λ c. search rules))

@@ -11,28 +11,28 @@ use borrow.Author.Rules.{rules}
 use Rattle.row.proofs.splits_inside.Statement.{statement}
 use Rattle.row.proofs.splits_inside.Tie as tie
 
-abbrev start : tie.After-struct-told2 → tie.Start
+abbrev start : tie.After-struct_told-then-first-r-1 → tie.Start
 start c = c.before.before.before.before.before
 
-returns : tie.Need-returns
+returns : tie.Need-returns-then-first-r
 returns c =
     let s = start c in
     let r = s.args.r in
     let f : SFits w64 r.split = search rules in
-    let from : to_z w64 s.args.first ≡ pos s.args.first = to_z_pos w64 (omega (arith, s.pre)) in
-    let to : to_z w64 s.args.last ≡ pos s.args.last = to_z_pos w64 (omega (arith, s.pre)) in
-    let t = c.before.before.if1.true in
+    let from : to_z w64 s.args.first ≡ pos s.args.first = to_z_pos w64 (omega (arith, s.requires)) in
+    let to : to_z w64 s.args.last ≡ pos s.args.last = to_z_pos w64 (omega (arith, s.requires)) in
+    let t = c.before.before.if-first-r.true in
     let h : lt_z (pos s.args.first) r.split ≡ true = sym (λ d. lt_z (from d) (to_z-of_z f d)) ∙ t in
     (λ d. lt_z (to_z-of_z f d) (to d)) ∙ sym (λ d. h d && lt_z r.split (pos s.args.last))
 
-returns-2 : tie.Need-returns-2
+returns-2 : tie.Need-returns-else-first-r
 returns-2 c =
     let s = c.before.before.before in
     let r = s.args.r in
     let f : SFits w64 r.split = search rules in
     let from : to_z w64 s.args.first ≡ pos s.args.first = to_z_pos w64 (omega (arith, s.requires)) in
-    let h : lt_z (pos s.args.first) r.split ≡ false = sym (λ d. lt_z (from d) (to_z-of_z f d)) ∙ c.if1.false in
-    c.if1.false ∙ sym (λ d. h d && lt_z r.split (pos s.args.last))
+    let h : lt_z (pos s.args.first) r.split ≡ false = sym (λ d. lt_z (from d) (to_z-of_z f d)) ∙ c.if-first-r.false in
+    c.if-first-r.false ∙ sym (λ d. h d && lt_z r.split (pos s.args.last))
 
-pub splits-inside-spec : {M : Type 1} → statement M
-splits-inside-spec = tie.close (tie.spec (search rules) (search rules) returns returns-2)
+pub splits_inside_spec : {M : Type 1} → statement M
+splits_inside_spec = tie.close (tie.spec (search rules) (search rules) returns returns-2)
