@@ -67,7 +67,7 @@ returns-3 c =
 bad : (c : tie.Else-end-eq-SPENT) → let s = c.before.before.before.before in bad_row ≤ end_in s.args.ending
 bad c = search rules
 
-returns-4 : tie.Need-returns-then-end-lt-ENDED
+returns-4 : tie.Need-returns
 returns-4 c =
     let t = c.before.before in
     let k = t.before.before.before in

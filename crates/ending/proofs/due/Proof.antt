@@ -15,7 +15,7 @@ returns c =
     let e : next a.tally ≡ Spent = cc in
     c.pack.ensures ∙ sym (ap (λ (n : Next). due n a.end) e)
 
-returns-2 : tie.Need-returns-in_default
+returns-2 : tie.Need-returns
 returns-2 c =
     let k = c.before.before in
     let v = k.before.before in

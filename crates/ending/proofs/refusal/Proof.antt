@@ -18,7 +18,7 @@ returns c =
     let k = c.before.before in
     simp (k.end_in-end.ensures, c.before.visits_in-visits.ensures, by_end k (lt-ltb _ bad_second c.if-end-lt-BAD_SECOND.true))
 
-returns-2 : tie.Need-returns-then-end-lt-BAD_SECOND
+returns-2 : tie.Need-returns
 returns-2 c =
     let k = c.before.before in
     simp (k.end_in-end.ensures, c.before.visits_in-visits.ensures, by_end k (le-ltb _ bad_second c.if-end-lt-BAD_SECOND.false))

@@ -14,7 +14,7 @@ returns c =
     let e : range_good a.r a.first a.last ≡ false = sym c.before.range_good.ensures ∙ no in
     sym (λ d. e d && (strip_good a.r && box_good a.r))
 
-returns-2 : tie.Need-returns-then-not-range_good
+returns-2 : tie.Need-returns
 returns-2 c =
     let p = c.before.before in
     let a = p.before.before.args in

@@ -61,7 +61,7 @@ returns-2 c =
     ∙ (λ d. eq_z s.args.r.split no_split && not (same_point (a d) (b d)))
     ∙ sym (left k.before ∙ (λ d. cond (l d) (of_leaf s) (of_more s)))
 
-returns-3 : tie.Need-returns-then-not-frame_good
+returns-3 : tie.Need-returns
 returns-3 c =
     let k = c.before in
     let s = k.before.before.before in
