@@ -11,16 +11,15 @@ use Rattle.ending.proofs.due.Tie as tie
 returns : tie.Need-returns-in_default
 returns c =
     let k = c.before.before in
-    let a = k.before.before.args in
+    let a = k.before.args in
     let e : next a.tally ≡ Spent = cc in
     c.pack.ensures ∙ sym (ap (λ (n : Next). due n a.end) e)
 
 returns-2 : tie.Need-returns
 returns-2 c =
-    let k = c.before.before in
-    let v = k.before.before in
-    let e = sym v.visit.ensures ∙ k.counted-1.given.1 in
-    c.pack-2.ensures ∙ sym (ap (λ (n : Next). due n v.before.args.end) e)
+    let visited = c.before.before in
+    let e = sym visited.visit.ensures ∙ c.before.in-Left.is in
+    c.pack-2.ensures ∙ sym (ap (λ (n : Next). due n visited.before.args.end) e)
 
 pub due_spec : {M : Type 1} → statement M
 due_spec =
