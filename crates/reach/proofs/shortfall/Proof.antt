@@ -20,10 +20,10 @@ module _ (s : tie.Start) where
   lo = to_z-of_z s.ranges.lo
 
   hi : to_z w64 (of_z w64 s.args.hi) ≡ s.args.hi
-  hi = to_z-of_z s.fits.hi
+  hi = to_z-of_z s.ranges.hi
 
   v : to_z w64 (of_z w64 s.args.v) ≡ s.args.v
-  v = to_z-of_z s.fits.v
+  v = to_z-of_z s.ranges.v
 
 -- below, and not below
 is_below : (c : tie.Then-v-lo) → c.before.args.v <ℤ c.before.args.lo
