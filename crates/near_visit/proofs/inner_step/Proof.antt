@@ -2,7 +2,6 @@
 use mathlib.Core.Path.{◌≡◌, sym, ◌∙◌, ap, subst}
 use mathlib.Core.Bool.{Bool, true}
 use Prim.Native.Nat.{ℕ}
-use borrow.Author.Tests.{not-true, not-false}
 use lib.IntN.{ℤ, pos, ◌*ℤ◌}
 use Rattle.rules.specs.Plane.{direction}
 use Rattle.rules.specs.Questions.{split_in, far_from}
@@ -19,20 +18,20 @@ use Rattle.near_visit.proofs.inner_step.Tie as tie
 abbrev is_far : tie.Start → ℤ → Bool
 is_far s D = far_from s.args.r s.args.a (direction s.args.a s.args.b) s.args.z D
 
-returns : tie.Need-returns
+returns : tie.Need-returns-then-not-splits_inside
 returns c =
     let s = c.before.before in
-    let g = sym c.before.splits-inside.ensures ∙ not-true _ c.if1.true in
+    let g = sym c.before.splits_inside.ensures ∙ c.if-not-splits_inside.true in
     (λ D e. sym (λ i. inner_by (split_in s.args.r) (g i) (is_far s D)), tt)
 
-abbrev start : tie.Else1 → tie.Start
+abbrev start : tie.Else-not-splits_inside → tie.Start
 start c = c.before.before
 
-was-good : (c : tie.Else1) → split_fits (start c).args.r (start c).args.first (start c).args.last ≡ true
-was-good c = sym c.before.splits-inside.ensures ∙ not-false _ c.if1.false
+was-good : (c : tie.Else-not-splits_inside) → split_fits (start c).args.r (start c).args.first (start c).args.last ≡ true
+was-good c = sym c.before.splits_inside.ensures ∙ c.if-not-splits_inside.false
 
 -- the rule of a split holds: whether the strip is far decides
-decided : (c : tie.After-far-from) {far : Bool} → c.far_from.result ≡ far
+decided : (c : tie.After-far_from) {far : Bool} → c.far_from.result ≡ far
     → let a = (start c.before).args in
     (D : ℤ) → pos a.reach ≡ D *ℤ D
     → inner_by (split_in a.r) true far ≡ inner_step a.r a.first a.last a.a a.b a.z D
@@ -40,23 +39,23 @@ decided c far D e =
     let k = c.before in
     let said = c.far_from.ensures D e in rw (was-good k, ← said, far)
 
-split-of-requires : tie.Need-split-of-requires
-split-of-requires c κs =
+split_of-requires : tie.Need-split_of-requires
+split_of-requires c κs =
     let k = c.before.before in
     let a = (start k).args in split-above a.r a.first a.last (was-good k)
 
-returns-3 : tie.Need-returns-3
+returns-3 : tie.Need-returns
 returns-3 c =
     let k = c.before.before.before in
     let a = (start k).args in
-    let s = c.split-of.ensures in (
-      λ D e. ap Halve s ∙ decided c.before.before c.before.if2.false D e,
+    let s = c.split_of.ensures in (
+      λ D e. ap Halve s ∙ decided c.before.before c.before.if-far_from.false D e,
       subst (λ (i : ℕ). Inner a.first i a.last) (sym s)
           (split_between a.r a.first a.last (was-good k)),
     )
 
-pub inner-step-spec : {M : Type 1} → statement M
-inner-step-spec =
+pub inner_step_spec : {M : Type 1} → statement M
+inner_step_spec =
     tie.close (tie.spec
-    (λ c κs. search rules) returns (λ c κs. search rules) (λ c. (decided c.before c.if2.true, tt))
-    split-of-requires returns-3)
+    (λ c κs. search rules) returns (λ c κs. search rules) (λ c. (decided c.before c.if-far_from.true, tt))
+    split_of-requires returns-3)
