@@ -56,4 +56,5 @@ returns-4 c =
 
 pub with_spec : {M : Type 1} → statement M
 with_spec =
-    tie.close (tie.spec (λ c. sym (simp (lt-ltb _ _ c.if-top-height.true))) returns-2 (search rules) returns-3 returns-4)
+    tie.close (tie.spec
+    (λ c. sym (simp (lt-ltb _ _ c.if-top-height.true))) returns-2 (search rules) returns-3 returns-4)
