@@ -9,7 +9,7 @@ use Rattle.integers.specs.Order.{min_z, max_z, min-l, min-greatest, max-r, max_l
 use Rattle.rules.specs.declared.Point.{Point}
 use Rattle.rules.specs.Plane.{same_point, step, direction, size², c_at, t_at}
 use Rattle.visits.proofs.Terms.{c-start, t-start}
-use Rattle.visits.proofs.Points.{same_point}
+use Rattle.visits.proofs.Points.{same_point_lem}
 
 -- 0 beside a number that is not below it
 min-zero : {z : ℤ} → pos 0 ≤ℤ z → min_z (pos 0) z ≡ pos 0
@@ -27,7 +27,7 @@ module _ (s e : Point) where
   unfolding direction
   c-end =
       cond_ind (same_point s e) flat (step s e) (λ u. c_at s u e ≡ pos 0)
-      (λ t. ap (c_at s flat) (sym (same_point s e t)) ∙ c-start s flat)
+      (λ t. ap (c_at s flat) (sym (same_point_lem s e t)) ∙ c-start s flat)
       (λ _. ring 4 (λ x y v w. (v :- x) :* (w :- y) :- (w :- y) :* (v :- x) := con (pos 0)) tt s.x s.y e.x
       e.y)
 
@@ -36,7 +36,7 @@ module _ (s e : Point) where
   t-end =
       cond_ind (same_point s e) flat (step s e) (λ u. t_at s u e ≡ size² (step s e))
       (λ t.
-      let same = same_point s e t in
+      let same = same_point_lem s e t in
       ap (t_at s flat) (sym same) ∙ t-start s flat ∙ sym still ∙ ap (λ (p : Point). size² (step s p)) same)
       (λ _. refl)
     where

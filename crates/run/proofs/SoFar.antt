@@ -154,8 +154,8 @@ module _ (q : List ℤ) (last : ℕ) where
   -- one point more
   pub so_far_more : (i : ℕ)
       → so_far (suc i)
-      ≡ measured_with (so_far i) (node_c q 0 last (point q (suc i))) (node_t q 0 last (point q (suc i))) (point q (suc i))
-      last (suc i)
+      ≡ measured_with (so_far i) (node_c q 0 last (point q (suc i))) (node_t q 0 last (point q (suc i)))
+      (point q (suc i)) last (suc i)
   unfolding height
   so_far_more i = λ d. record {
     c = span_more (λ j. node_c q 0 last (point q j)) last i d;

@@ -17,68 +17,73 @@ use Rattle.build_checks.proofs.check.Statement.{statement}
 use Rattle.build_checks.proofs.check.Tie as tie
 
 -- what is known past the first, the second and the third test
-even : (c : tie.Else1) → eqb (length c.before.args.points.now % 2) 1 ≡ false
-even c = ne_eqb _ _ c.if1.false
+even : (c : tie.Else-points-eq1) → eqb (length c.before.args.points.now % 2) 1 ≡ false
+even c = ne_eqb _ _ c.if-points-eq1.false
 
-enough : (c : tie.Else2) → ltb (points_of c.before.before.args.points.now) fewest ≡ false
-enough c = le-ltb _ _ c.if2.false
+enough : (c : tie.Else-count-lt-FEWEST) → ltb (points_of c.before.before.args.points.now) fewest ≡ false
+enough c = le-ltb _ _ c.if-count-lt-FEWEST.false
 
-not_more : (c : tie.Else3) → ltb most (points_of c.before.before.before.args.points.now) ≡ false
-not_more c = le-ltb _ _ c.if3.false
+not_more : (c : tie.Else-count-gt-MOST) → ltb most (points_of c.before.before.before.args.points.now) ≡ false
+not_more c = le-ltb _ _ c.if-count-gt-MOST.false
 
 -- so the checks that are left, past the third, the fourth and the fifth
-abbrev points : tie.Else3 → List ℤ
+abbrev points : tie.Else-count-gt-MOST → List ℤ
 points c = c.before.before.before.args.points.now
 
-past_three : (c : tie.Else3) (t : List ℤ)
+past_three : (c : tie.Else-count-gt-MOST) (t : List ℤ)
     → build_refusal (points c) t
     ≡ first_refusal (sheet_check (points c) ∷ neighbour_check (points c) ∷ table_check LineA (points c) t ∷ [])
 unfolding build_refusal
 past_three c t = simp (even c.before.before, enough c.before, not_more c)
 
-past-four : (c : tie.Else4) (t : List ℤ)
+past-four : (c : tie.Else-off-count) (t : List ℤ)
     → let ps = points c.before.before in
     build_refusal ps t ≡ first_refusal (neighbour_check ps ∷ table_check LineA ps t ∷ [])
 past-four c t =
-    past_three c.before.before t ∙ simp (sym c.before.lowest-off.ensures, le-ltb _ _ c.if4.false)
+    past_three c.before.before t ∙ simp (sym c.before.lowest_off-off.ensures, le-ltb _ _ c.if-off-count.false)
 
-abbrev on_sheet : tie.Else5 → tie.Else4
+abbrev on_sheet : tie.Else-equal-segments → tie.Else-off-count
 on_sheet c = c.before.before
 
-past-five : (c : tie.Else5) (t : List ℤ)
+past-five : (c : tie.Else-equal-segments) (t : List ℤ)
     → let ps = points (on_sheet c).before.before in build_refusal ps t ≡ first_refusal (table_check LineA ps t ∷ [])
-past-five c t = past-four (on_sheet c) t ∙ simp (sym c.before.lowest-equal.ensures, le-ltb _ _ c.if5.false)
+past-five c t =
+    past-four (on_sheet c) t
+    ∙ simp (sym c.before.lowest_equal-equal.ensures, le-ltb _ _ c.if-equal-segments.false)
 
-returns : tie.Need-returns
+returns : tie.Need-returns-then-points-eq1
 unfolding build_refusal
-returns c t n = simp (eq-eqb _ _ c.before.if1.true, c.refuse.ensures)
+returns c t n = simp (eq-eqb _ _ c.before.if-points-eq1.true, c.refuse.ensures)
 
-returns-2 : tie.Need-returns-2
+returns-2 : tie.Need-returns-then-count-lt-FEWEST
 unfolding build_refusal
-returns-2 c t n = simp (even c.before.before, lt-ltb _ _ c.before.if2.true, c.refuse2.ensures)
+returns-2 c t n =
+    let less = lt-ltb _ _ c.before.if-count-lt-FEWEST.true in
+    simp (even c.before.before, less, c.refuse-then-count-lt-FEWEST.ensures)
 
-returns-3 : tie.Need-returns-3
+returns-3 : tie.Need-returns-then-count-gt-MOST
 unfolding build_refusal
 returns-3 c t n =
     let p = c.before.before in
-    simp (even p.before, enough p, lt-ltb _ _ c.before.if3.true, c.refuse3.ensures)
+    simp (even p.before, enough p, lt-ltb _ _ c.before.if-count-gt-MOST.true, c.refuse-then-count-gt-MOST.ensures)
 
-returns-4 : tie.Need-returns-4
+returns-4 : tie.Need-returns-then-off-count
 returns-4 c t n =
     let o = c.before.before in
-    let off = sym o.lowest-off.ensures in
-    simp (past_three o.before t, off, lt-ltb _ _ c.before.if4.true, c.refuse4.ensures)
+    let off = sym o.lowest_off-off.ensures in
+    simp (past_three o.before t, off, lt-ltb _ _ c.before.if-off-count.true, c.refuse-then-off-count.ensures)
 
-returns-5 : tie.Need-returns-5
+returns-5 : tie.Need-returns-then-equal-segments
 returns-5 c t n =
     let q = c.before.before in
-    let equal = sym q.lowest-equal.ensures in
-    simp (past-four q.before t, equal, lt-ltb _ _ c.before.if5.true, c.refuse5.ensures)
+    let equal = sym q.lowest_equal-equal.ensures in
+    simp (past-four q.before t, equal, lt-ltb _ _ c.before.if-equal-segments.true, c.refuse-then-equal-segments.ensures)
 
-pub check-spec : {M : Type 1} → statement M
-check-spec =
+pub check_spec : {M : Type 1} → statement M
+check_spec =
     tie.close (tie.spec
     (search rules) returns (search rules) returns-2 (search rules) returns-3 (search rules) (search rules) returns-4
     (search rules) (search rules) (search rules) returns-5 (search rules) (search rules) (search rules) (search rules)
-    (λ c t n. simp (past-five c.before.before t, n, lt-ltb _ _ c.before.if6.true, c.refuse6.ensures))
-    (λ c t n. simp (past-five c.before t, n, le-ltb _ _ c.if6.false)))
+    (λ c t n. simp (past-five c.before.before t, n, lt-ltb _ _ c.before.if-room-segments.true,
+    c.refuse-then-room-segments.ensures))
+    (λ c t n. simp (past-five c.before t, n, le-ltb _ _ c.if-room-segments.false)))

@@ -9,25 +9,26 @@ use borrow.Author.Rules.{rules}
 use Rattle.build_checks.proofs.lowest_off.Statement.{statement}
 use Rattle.build_checks.proofs.lowest_off.Tie as tie
 
-abbrev invariant-loop : tie.invariant-loop
+abbrev invariant-loop : tie.invariant-loop-i
 invariant-loop points count i₀ i = Passed (off_sheet points) count i
 
-abbrev decreases-loop : tie.decreases-loop
+abbrev decreases-loop : tie.decreases-loop-i
 decreases-loop points count i₀ i = count - i
 
-returns : tie.Need-returns invariant-loop decreases-loop
+returns : tie.Need-returns-then-not-on_sheet_at invariant-loop decreases-loop
 returns c =
     let asked = c.before in
-    found asked.before.before.loop.invariant (omega arith) (sym (ap not asked.on-sheet-at.ensures) ∙ c.if1.true)
+    found asked.before.before.loop-i.invariant (omega arith)
+    (sym (ap not asked.on_sheet_at.ensures) ∙ ap not c.if-not-on_sheet_at.true)
 
-loop-again : tie.Need-loop-preserved invariant-loop decreases-loop
+loop-again : tie.Need-loop-i-preserved invariant-loop decreases-loop
 loop-again c =
     let asked = c.before in
-    one-passed asked.before.before.loop.invariant (omega arith)
-    (sym (ap not asked.on-sheet-at.ensures) ∙ c.if1.false)
+    one-passed asked.before.before.loop-i.invariant (omega arith)
+    (sym (ap not asked.on_sheet_at.ensures) ∙ ap not c.if-not-on_sheet_at.false)
 
-pub lowest-off-spec : {M : Type 1} → statement M
-lowest-off-spec =
+pub lowest_off_spec : {M : Type 1} → statement M
+lowest_off_spec =
     tie.close (tie.spec
     invariant-loop decreases-loop (λ c. none_passed (off_sheet c.args.points.now) c.args.count) (search rules) returns
-    (search rules) (search rules) loop-again (λ c. all-passed c.before.loop.invariant (omega arith)))
+    (search rules) (search rules) loop-again (λ c. all-passed c.before.loop-i.invariant (omega arith)))

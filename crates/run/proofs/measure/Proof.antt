@@ -19,18 +19,18 @@ use Rattle.run.proofs.SoFar.{so_far, top_below, so-far-ends, so_far_more, so-far
 use Rattle.run.proofs.measure.Statement.{statement}
 use Rattle.run.proofs.measure.Tie as tie
 
-abbrev invariant-loop : tie.invariant-loop
+abbrev invariant-loop : tie.invariant-loop-i
 invariant-loop run last s u m₀ i₀ m i = (i < last) × (m ≡ so_far run last i)
 
-abbrev decreases-loop : tie.decreases-loop
+abbrev decreases-loop : tie.decreases-loop-i
 decreases-loop run last s u m₀ i₀ m i = last - i
 
 -- the places of the code: where the direction is known, and at the loop's test
 abbrev Headed : Type 0
-Headed = tie.After-direction invariant-loop decreases-loop
+Headed = tie.After-direction-u invariant-loop decreases-loop
 
 abbrev AtTest : Type 0
-AtTest = tie.At-loop invariant-loop decreases-loop
+AtTest = tie.At-loop-i invariant-loop decreases-loop
 
 abbrev headed : AtTest → Headed
 headed c = c.before.before
@@ -39,41 +39,41 @@ headed c = c.before.before
 abbrev run : Headed → List ℤ
 run c = c.before.before.before.args.run.now
 
-ends_on : (c : tie.After-point-at2 invariant-loop decreases-loop)
-    → OnSheet c.before.point_at.result × OnSheet c.point-at2.result
+ends_on : (c : tie.After-point_at-e invariant-loop decreases-loop)
+    → OnSheet c.before.point_at-s.result × OnSheet c.point_at-e.result
 ends_on c =
     let s = c.before.before in
     let q = s.args.run.now in (
-      read-on q s.requires.0 0 (omega arith) c.before.point_at.ensures,
-      read-on q s.requires.0 (segments_of q) (omega arith) c.point-at2.ensures,
+      read-on q s.requires.0 0 (omega arith) c.before.point_at-s.ensures,
+      read-on q s.requires.0 (segments_of q) (omega arith) c.point_at-e.ensures,
     )
 
-small : (c : Headed) → Small c.direction.result
+small : (c : Headed) → Small c.direction-u.result
 small c =
-    let on = ends_on c.before in subst Small (sym c.direction.ensures) (direction-small on.0 on.1)
+    let on = ends_on c.before in subst Small (sym c.direction-u.ensures) (direction-small on.0 on.1)
 
-loop-holds : tie.Need-loop-init invariant-loop decreases-loop
+loop-holds : tie.Need-loop-i-init invariant-loop decreases-loop
 loop-holds c =
     let h = c.before in
     let q = run h in
-    let s = h.before.before.point_at.ensures in
-    let e = h.before.point-at2.ensures in
-    (omega arith, c.ends.ensures ∙ (λ d. ends_of (s d) (e d)) ∙ sym (so-far-ends q (segments_of q)))
+    let s = h.before.before.point_at-s.ensures in
+    let e = h.before.point_at-e.ensures in
+    (omega arith, c.ends-m.ensures ∙ (λ d. ends_of (s d) (e d)) ∙ sym (so-far-ends q (segments_of q)))
 
-with-requires : tie.Need-with-requires invariant-loop decreases-loop
+with-requires : tie.Need-with-m-requires invariant-loop decreases-loop
 with-requires c κs =
     let t = c.before.before in
     let h = headed t in
     let s = h.before.before.before in
     let q = run h in
-    let i = t.loop.i in
-    let top = ap (λ (m : Measured). m.top.split) t.loop.invariant.1 in (
+    let i = t.loop-i.i in
+    let top = ap (λ (m : Measured). m.top.split) t.loop-i.invariant.1 in (
       (ends_on h.before).0,
       small h,
-      read-on q s.pre.0 (i + 1) (omega arith) c.point-at3.ensures,
+      read-on q s.requires.0 (i + 1) (omega arith) c.point_at.ensures,
       omega (arith, top, top_below q (segments_of q) i),
       omega arith,
-      omega (arith, s.pre.2),
+      omega (arith, s.requires.2),
     )
 
 -- what is measured with the next point is what is measured up to it
@@ -82,23 +82,23 @@ next : (q : List ℤ) (n i : ℕ) {m r : Measured} {s e u p : Point} → m ≡ s
     → r ≡ so_far q n (i + 1)
 next q n i m s e u p w = rw (add-one i) (rw (m, u, s, e, p, add-one i, ← so_far_more q n i) at w)
 
-loop-again : tie.Need-loop-preserved invariant-loop decreases-loop
+loop-again : tie.Need-loop-i-preserved invariant-loop decreases-loop
 loop-again c =
     let t = c.before.before.before in
     let h = headed t in (
       omega arith,
-      next (run h) (segments_of (run h)) t.loop.i t.loop.invariant.1 h.before.before.point_at.ensures
-          h.before.point-at2.ensures h.direction.ensures c.before.point-at3.ensures c.with.ensures,
+      next (run h) (segments_of (run h)) t.loop-i.i t.loop-i.invariant.1 h.before.before.point_at-s.ensures
+          h.before.point_at-e.ensures h.direction-u.ensures c.before.point_at.ensures c.with-m.ensures,
     )
 
 returns : tie.Need-returns invariant-loop decreases-loop
 returns c =
     let t = c.before in
     let q = run (headed t) in
-    t.loop.invariant.1 ∙ so-far-all q t.loop.i (omega arith)
+    t.loop-i.invariant.1 ∙ so-far-all q t.loop-i.i (omega arith)
 
-pub measure-spec : {M : Type 1} → statement M
-measure-spec =
+pub measure_spec : {M : Type 1} → statement M
+measure_spec =
     tie.close (tie.spec
     invariant-loop decreases-loop (search rules) (search rules) (search rules) (λ c κs. ends_on c)
     (λ c κs. ends_on c.before) loop-holds (search rules)

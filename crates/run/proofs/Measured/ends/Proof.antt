@@ -18,9 +18,9 @@ returns c =
     let h = sized.before.before.requires in
     let a = point-stored h.0 in
     let b = point-stored h.1 in
-    let square = result w64 sized.size2.type-inv (sized.size2.ensures ∙ ap size² sized.before.step.ensures) in
+    let square = result w64 sized.size2.type_inv (sized.size2.ensures ∙ ap size² sized.before.step.ensures) in
     let x = x-read.of.ensures ∙ (λ d. span_of (a d).x (b d).x) in
-    let y = c.of2.ensures ∙ (λ d. span_of (a d).y (b d).y) in
+    let y = c.of-2.ensures ∙ (λ d. span_of (a d).y (b d).y) in
     λ d. record {
       c = record { lo = pos 0; hi = pos 0 };
       t = record { lo = pos 0; hi = square d };
@@ -29,5 +29,5 @@ returns c =
       top = record { split = 1; height = 0 };
     }
 
-pub ends-spec : {M : Type 1} → statement M
-ends-spec = tie.close (tie.spec (search rules) (λ c κs. search stepped) (search rules) (search rules) returns)
+pub ends_spec : {M : Type 1} → statement M
+ends_spec = tie.close (tie.spec (search rules) (λ c κs. search stepped) (search rules) (search rules) returns)

@@ -14,8 +14,8 @@ returns c =
     let s = p.before in
     let a = to_z-of_z {w = w64} s.ranges.a in
     let b = to_z-of_z {w = w64} s.ranges.b in
-    let least = result w64 p.lesser.type-inv (p.lesser.ensures ∙ (λ d. min_z (a d) (b d))) in
-    let greatest = result w64 c.greater.type-inv (c.greater.ensures ∙ (λ d. max_z (a d) (b d))) in
+    let least = result w64 p.lesser.type_inv (p.lesser.ensures ∙ (λ d. min_z (a d) (b d))) in
+    let greatest = result w64 c.greater.type_inv (c.greater.ensures ∙ (λ d. max_z (a d) (b d))) in
     λ d. record { lo = least d; hi = greatest d }
 
 pub of_spec : {M : Type 1} → statement M

@@ -16,9 +16,9 @@ returns c =
     let lo : SFits w64 s.args.self.lo = search rules in
     let hi : SFits w64 s.args.self.hi = search rules in
     let v = to_z-of_z {w = w64} s.ranges.v in
-    let least = result w64 p.lesser.type-inv p.lesser.ensures ∙ (λ d. min_z (to_z-of_z lo d) (v d)) in
-    let greatest = result w64 c.greater.type-inv c.greater.ensures ∙ (λ d. max_z (to_z-of_z hi d) (v d)) in
+    let least = result w64 p.lesser.type_inv p.lesser.ensures ∙ (λ d. min_z (to_z-of_z lo d) (v d)) in
+    let greatest = result w64 c.greater.type_inv c.greater.ensures ∙ (λ d. max_z (to_z-of_z hi d) (v d)) in
     λ d. record { lo = least d; hi = greatest d }
 
-pub with-spec : {M : Type 1} → statement M
-with-spec = tie.close (tie.spec (search rules) (search rules) returns)
+pub with_spec : {M : Type 1} → statement M
+with_spec = tie.close (tie.spec (search rules) (search rules) returns)

@@ -15,13 +15,13 @@ use Rattle.run.proofs.Top.with.Statement.{statement}
 use Rattle.run.proofs.Top.with.Tie as tie
 
 -- once the top is not the lower, and once it is as high
-not_lower : (c : tie.Else1) → ltb c.before.args.self.height c.before.args.height ≡ false
-not_lower c = le-ltb _ _ c.if1.false
+not_lower : (c : tie.Else-top-height) → ltb c.before.args.self.height c.before.args.height ≡ false
+not_lower c = le-ltb _ _ c.if-top-height.false
 
-level : (c : tie.Else2) → eqb c.before.before.args.self.height c.before.before.args.height ≡ true
+level : (c : tie.Else-height-top) → eqb c.before.before.args.self.height c.before.before.args.height ≡ true
 level c = let a = c.before.before.args in eq-eqb a.self.height a.height (omega arith)
 
-returns-2 : tie.Need-returns-2
+returns-2 : tie.Need-returns-then-height-top
 returns-2 c =
     let a = c.before.before.args in
     let e = ne_eqb a.self.height a.height (omega arith) in sym (simp (not_lower c.before, e))
@@ -32,7 +32,7 @@ either true e = refl
 either false e = e
 
 -- of equal heights
-returns-3 : tie.Need-returns-3
+returns-3 : tie.Need-returns-then-i-self
 returns-3 c =
     let k = c.before.before in
     let a = k.before.before.args in
@@ -47,13 +47,14 @@ returns-3 c =
     sym (simp (not_lower k.before, level k, o)))
     (≤-or-> a.i a.self.split)
 
-returns-4 : tie.Need-returns-4
+returns-4 : tie.Need-returns
 returns-4 c =
     let k = c.before.before in
     let a = k.before.before.args in
     let o = le-ltb (off_middle 0 a.last a.i) (off_middle 0 a.last a.self.split) (omega arith) in
     sym (simp (not_lower k.before, level k, o))
 
-pub with-spec : {M : Type 1} → statement M
-with-spec =
-    tie.close (tie.spec (λ c. sym (simp (lt-ltb _ _ c.if1.true))) returns-2 (search rules) returns-3 returns-4)
+pub with_spec : {M : Type 1} → statement M
+with_spec =
+    tie.close (tie.spec
+    (λ c. sym (simp (lt-ltb _ _ c.if-top-height.true))) returns-2 (search rules) returns-3 returns-4)
