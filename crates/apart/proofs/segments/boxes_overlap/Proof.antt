@@ -45,4 +45,5 @@ returns c =
 pub boxes_overlap_spec : {M : Type 1} → statement M
 boxes_overlap_spec =
     tie.close (tie.spec
-    (λ c κs. search rules) (λ c κs. search rules) returns (λ c. c.if-ranges_overlap.false ∙ by_first_lem c.before c.if-ranges_overlap.false))
+    (λ c κs. search rules) (λ c κs. search rules) returns
+    (λ c. c.if-ranges_overlap.false ∙ by_first_lem c.before c.if-ranges_overlap.false))

@@ -31,8 +31,10 @@ returns : tie.Need-returns-then-lesser-greater
 returns c =
     let g = c.before.before.before in
     let f = (start g).ranges in
-    let low = result w64 c.before.lesser-then-lesser-greater.type_inv (c.before.lesser-then-lesser-greater.ensures ∙ both-back min_z f.c f.d) in
-    let high = result w64 c.greater-then-lesser-greater.type_inv (c.greater-then-lesser-greater.ensures ∙ both-back max_z f.a f.b) in
+    let l = c.before.lesser-then-lesser-greater in
+    let h = c.greater-then-lesser-greater in
+    let low = result w64 l.type_inv (l.ensures ∙ both-back min_z f.c f.d) in
+    let high = result w64 h.type_inv (h.ensures ∙ both-back max_z f.a f.b) in
     (λ d. le_z (low d) (high d)) ∙ by_first g c.before.before.if-lesser-greater.true
 
 pub ranges_overlap_spec : {M : Type 1} → statement M

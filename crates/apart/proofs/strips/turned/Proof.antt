@@ -27,4 +27,5 @@ returns c =
 
 pub turned_spec : {M : Type 1} → statement M
 turned_spec =
-    tie.close (tie.spec (λ c. safe-step 1 formula 0 (in-abs {w = w64} c.before.before.requires.y-in tt & nil) tt) returns)
+    tie.close
+    (tie.spec (λ c. safe-step 1 formula 0 (in-abs {w = w64} c.before.before.requires.y-in tt & nil) tt) returns)
