@@ -44,7 +44,8 @@ all-four f a b m c d n p q = p n ∙ (λ i. q a i && q b i) ∙ sym (and_assoc (
 module _ (a b c d : ℤ) where
   -- all are below lo where the greatest is
   below_all : (lo : ℤ)
-      → lt_z (max_z a b +ℤ max_z c d) lo ≡ (lt_z (a +ℤ c) lo && lt_z (a +ℤ d) lo && lt_z (b +ℤ c) lo && lt_z (b +ℤ d) lo)
+      → lt_z (max_z a b +ℤ max_z c d) lo
+      ≡ (lt_z (a +ℤ c) lo && lt_z (a +ℤ d) lo && lt_z (b +ℤ c) lo && lt_z (b +ℤ d) lo)
   below_all lo =
       all-four (λ x y. lt_z (x +ℤ y) lo) a b (max_z a b) c d (max_z c d)
       (λ y. max-both (λ x. lt_z (x +ℤ y) lo) (λ _ _ h. down h (≤ℤ_refl y)) a b)
@@ -57,7 +58,8 @@ module _ (a b c d : ℤ) where
 
   -- all are above hi where the least is
   above-all : (hi : ℤ)
-      → lt_z hi (min_z a b +ℤ min_z c d) ≡ (lt_z hi (a +ℤ c) && lt_z hi (a +ℤ d) && lt_z hi (b +ℤ c) && lt_z hi (b +ℤ d))
+      → lt_z hi (min_z a b +ℤ min_z c d)
+      ≡ (lt_z hi (a +ℤ c) && lt_z hi (a +ℤ d) && lt_z hi (b +ℤ c) && lt_z hi (b +ℤ d))
   above-all hi =
       all-four (λ x y. lt_z hi (x +ℤ y)) a b (min_z a b) c d (min_z c d)
       (λ y. min-both (λ x. lt_z hi (x +ℤ y)) (λ _ _ h. up h (≤ℤ_refl y)) a b)

@@ -8,7 +8,7 @@ use borrow.Author.Rules.{rules}
 use Rattle.meet_visit.proofs.both_leaves.Statement.{statement}
 use Rattle.meet_visit.proofs.both_leaves.Tie as tie
 
-abbrev start : tie.After-struct-known2 → tie.Start
+abbrev start : tie.After-struct_known-2-1 → tie.Start
 start c = c.before.before
 
 -- what the first comparison says, and then the second
@@ -16,15 +16,15 @@ both : (s : tie.Start) {x : Bool} → x ≡ leaf s.args.a
     → (x && leaf s.args.b) ≡ (leaf s.args.a && leaf s.args.b)
 both s e = ap (λ (x : Bool). x && leaf s.args.b) e
 
-returns : tie.Need-returns
+returns : tie.Need-returns-then-a
 returns c =
     let t = c.before.before in
-    let s = start t.before in both s (sym (le-leb s.args.a.last (s.args.a.first + 1) t.if1.true))
+    let s = start t.before in both s (sym (le-leb s.args.a.last (s.args.a.first + 1) t.if-a.true))
 
-returns-2 : tie.Need-returns-2
+returns-2 : tie.Need-returns-else-a
 returns-2 c =
     let a = (start c.before).args.a in
-    let e = lt-leb a.last (a.first + 1) c.if1.false in e ∙ both (start c.before) (sym e)
+    let e = lt-leb a.last (a.first + 1) c.if-a.false in e ∙ both (start c.before) (sym e)
 
-pub both-leaves-spec : {M : Type 1} → statement M
-both-leaves-spec = tie.close (tie.spec (λ c. search rules) (λ c. search rules) returns returns-2)
+pub both_leaves_spec : {M : Type 1} → statement M
+both_leaves_spec = tie.close (tie.spec (λ c. search rules) (λ c. search rules) returns returns-2)

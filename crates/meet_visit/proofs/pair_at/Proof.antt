@@ -10,16 +10,16 @@ returns c =
     let b = c.before in
     let a = b.before in
     let s = a.before.before.args in
-    let of-a = a.Node-at.ensures ∙ ap (node_in s.table-a.now) a.before.row-of-a.ensures in
-    let of-b = c.node-at2.ensures ∙ ap (node_in s.table-b.now) b.row-of-b.ensures in
+    let of-a = a.node_at-a.ensures ∙ ap (node_in s.table_a.now) a.before.row_of_a.ensures in
+    let of-b = c.node_at-b.ensures ∙ ap (node_in s.table_b.now) b.row_of_b.ensures in
     λ i. record { a = of-a i; b = of-b i }
 
-pub pair-at-spec : {M : Type 1} → statement M
-pair-at-spec =
+pub pair_at_spec : {M : Type 1} → statement M
+pair_at_spec =
     tie.close (tie.spec
     (λ c κs. search rules)
-    (λ c κs. subst (TellsNode c.before.args.table-a.now) (sym c.row-of-a.ensures) c.before.requires.0)
+    (λ c κs. subst (TellsNode c.before.args.table_a.now) (sym c.row_of_a.ensures) c.before.requires.0)
     (λ c κs. search rules)
     (λ c κs. let s = c.before.before.before in
-    subst (TellsNode s.args.table-b.now) (sym c.row-of-b.ensures) s.requires.1)
+    subst (TellsNode s.args.table_b.now) (sym c.row_of_b.ensures) s.requires.1)
     returns)

@@ -11,7 +11,7 @@ by-test : (c : tie.After-share) {b : Bool} → c.share.result ≡ b
     → let a = c.before.args in cond b FINISHES PASSES ≡ tested a.a a.b a.c a.d
 by-test c e = ap (λ (x : Bool). cond x FINISHES PASSES) (sym e ∙ c.share.ensures)
 
-pub test-spec : {M : Type 1} → statement M
-test-spec =
+pub test_spec : {M : Type 1} → statement M
+test_spec =
     tie.close (tie.spec
-    (λ c κs. search rules) (λ c. by-test c.before c.if1.true) (λ c. by-test c.before c.if1.false))
+    (λ c κs. search rules) (λ c. by-test c.before c.if-share.true) (λ c. by-test c.before c.if-share.false))

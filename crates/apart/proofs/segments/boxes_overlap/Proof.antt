@@ -17,14 +17,14 @@ read : (a b c d : ℤ) → SFits w64 a → SFits w64 b → SFits w64 c → SFits
 read a b c d h k l m = λ i. ranges_overlap (to_z-of_z h i) (to_z-of_z k i) (to_z-of_z l i) (to_z-of_z m i)
 
 -- where it started; the answer, by what is said of x
-module _ (c : tie.After-ranges-overlap) where
+module _ (c : tie.After-ranges_overlap) where
   abbrev start : tie.Start
   start = let k = c.before.before.before in k.before.before
 
   abbrev by_first : Bool → Bool
   by_first x = let s = start.args in x && ranges_overlap s.a.y s.b.y s.c.y s.d.y
 
-  by_first_lem : {x : Bool} → c.ranges-overlap.result ≡ x
+  by_first_lem : {x : Bool} → c.ranges_overlap.result ≡ x
       → let s = start.args in by_first x ≡ boxes_overlap s.a s.b s.c s.d
   by_first_lem e =
       let s = start.args in
@@ -32,7 +32,7 @@ module _ (c : tie.After-ranges-overlap) where
       read s.a.x s.b.x s.c.x s.d.x (search rules) (search rules) (search rules) (search rules)
       in cc
 
-returns : tie.Need-returns
+returns : tie.Need-returns-then-ranges_overlap
 returns c =
     let k = c.before.before.before in
     let t = k.before.before in
@@ -40,9 +40,10 @@ returns c =
     let stored =
     read s.a.y s.b.y s.c.y s.d.y (search rules) (search rules) (search rules) (search rules)
     in
-    let says = by_first_lem t.before t.if1.true in cc
+    let says = by_first_lem t.before t.if-ranges_overlap.true in cc
 
-pub boxes-overlap-spec : {M : Type 1} → statement M
-boxes-overlap-spec =
+pub boxes_overlap_spec : {M : Type 1} → statement M
+boxes_overlap_spec =
     tie.close (tie.spec
-    (λ c κs. search rules) (λ c κs. search rules) returns (λ c. c.if1.false ∙ by_first_lem c.before c.if1.false))
+    (λ c κs. search rules) (λ c κs. search rules) returns
+    (λ c. c.if-ranges_overlap.false ∙ by_first_lem c.before c.if-ranges_overlap.false))

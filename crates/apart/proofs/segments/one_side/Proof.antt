@@ -15,26 +15,26 @@ use Rattle.apart.proofs.segments.one_side.Tie as tie
 abbrev by_sign : tie.Start → Bool → Bool → Bool
 by_sign s x y = let z = s.args.other in (x && lt_z (pos 0) z) || (y && lt_z z (pos 0))
 
-returns : tie.Need-returns
+returns : tie.Need-returns-then-one-gt0
 returns c =
     let s = c.before in
     let is = to_z-of_z s.ranges.one in
-    let above = sym c.if1.true ∙ (λ i. lt_z (pos 0) (is i)) in
-    let below = sym (lt-false (<ℤ-weaken (lt_yes refl is c.if1.true))) in
+    let above = sym c.if-one-gt0.true ∙ (λ i. lt_z (pos 0) (is i)) in
+    let below = sym (lt-false (<ℤ-weaken (lt_yes refl is c.if-one-gt0.true))) in
     (λ i. lt_z (pos 0) (to_z-of_z s.ranges.other i))
     ∙ sym (or-false (lt_z (pos 0) s.args.other))
     ∙ (λ i. by_sign s (above i) (below i))
 
-not-above : (c : tie.Else1) {y : Bool} → let s = c.before in lt_z (back s.args.one) (pos 0) ≡ y
+not-above : (c : tie.Else-one-gt0) {y : Bool} → let s = c.before in lt_z (back s.args.one) (pos 0) ≡ y
     → by_sign s false y ≡ one_side s.args.one s.args.other
 not-above c e =
     let is = to_z-of_z c.before.ranges.one in
-    let above = sym c.if1.false ∙ (λ i. lt_z (pos 0) (is i)) in
+    let above = sym c.if-one-gt0.false ∙ (λ i. lt_z (pos 0) (is i)) in
     let below = sym e ∙ (λ i. lt_z (is i) (pos 0)) in λ i. by_sign c.before (above i) (below i)
 
-returns-2 : tie.Need-returns-2
+returns-2 : tie.Need-returns-then-one-lt0
 returns-2 c =
-    (λ i. lt_z (to_z-of_z c.before.before.ranges.other i) (pos 0)) ∙ not-above c.before c.if2.true
+    (λ i. lt_z (to_z-of_z c.before.before.ranges.other i) (pos 0)) ∙ not-above c.before c.if-one-lt0.true
 
-pub one-side-spec : {M : Type 1} → statement M
-one-side-spec = tie.close (tie.spec returns returns-2 (λ c. c.if2.false ∙ not-above c.before c.if2.false))
+pub one_side_spec : {M : Type 1} → statement M
+one_side_spec = tie.close (tie.spec returns returns-2 (λ c. c.if-one-lt0.false ∙ not-above c.before c.if-one-lt0.false))

@@ -22,21 +22,23 @@ module _ (c : tie.After-greater) where
   by_first : {x : Bool} → le_z (back c.before.lesser.result) (back c.greater.result) ≡ x
       → let s = start.args in (x && second) ≡ ranges_overlap s.a s.b s.c s.d
   by_first e =
-      let f = start.fits in
-      let low = result w64 c.before.lesser.type-inv (c.before.lesser.ensures ∙ both-back min_z f.a f.b) in
-      let high = result w64 c.greater.type-inv (c.greater.ensures ∙ both-back max_z f.c f.d) in
+      let f = start.ranges in
+      let low = result w64 c.before.lesser.type_inv (c.before.lesser.ensures ∙ both-back min_z f.a f.b) in
+      let high = result w64 c.greater.type_inv (c.greater.ensures ∙ both-back max_z f.c f.d) in
       λ i. (sym e ∙ (λ d. le_z (low d) (high d))) i && second
 
-returns : tie.Need-returns
+returns : tie.Need-returns-then-lesser-greater
 returns c =
     let g = c.before.before.before in
     let f = (start g).ranges in
-    let low = result w64 c.before.lesser2.type-inv (c.before.lesser2.ensures ∙ both-back min_z f.c f.d) in
-    let high = result w64 c.greater2.type-inv (c.greater2.ensures ∙ both-back max_z f.a f.b) in
-    (λ d. le_z (low d) (high d)) ∙ by_first g c.before.before.if1.true
+    let l = c.before.lesser-then-lesser-greater in
+    let h = c.greater-then-lesser-greater in
+    let low = result w64 l.type_inv (l.ensures ∙ both-back min_z f.c f.d) in
+    let high = result w64 h.type_inv (h.ensures ∙ both-back max_z f.a f.b) in
+    (λ d. le_z (low d) (high d)) ∙ by_first g c.before.before.if-lesser-greater.true
 
-pub ranges-overlap-spec : {M : Type 1} → statement M
-ranges-overlap-spec =
+pub ranges_overlap_spec : {M : Type 1} → statement M
+ranges_overlap_spec =
     tie.close
     (tie.spec (λ c κs. search rules) (λ c κs. search rules) (λ c κs. search rules) (λ c κs. search rules)
-    returns (λ c. c.if1.false ∙ by_first c.before c.if1.false))
+    returns (λ c. c.if-lesser-greater.false ∙ by_first c.before c.if-lesser-greater.false))

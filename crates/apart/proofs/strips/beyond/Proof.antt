@@ -36,23 +36,23 @@ abbrev held : ℤ → ℤ → ℤ → ℤ
 held v e s = back (back v *ℤ back (back e -ℤ back s))
 
 sub-fits : {e s : ℤ} → Abs≤ limit e → Abs≤ limit s → SFits w64 (back e -ℤ back s)
-sub-fits k l = safe-step 2 difference 0 (in-abs k tt & in-abs l tt & nil) tt
+sub-fits k l = safe-step 2 difference 0 (in-abs {w = w64} k tt & in-abs {w = w64} l tt & nil) tt
 
 mul-fits : {v e s : ℤ} → Abs≤ (2 * limit) v → Abs≤ limit e → Abs≤ limit s
     → SFits w64 (back v *ℤ back (back e -ℤ back s))
-mul-fits h k l = safe-step 3 part 1 (in-abs h tt & in-abs k tt & in-abs l tt & nil) tt
+mul-fits h k l = safe-step 3 part 1 (in-abs {w = w64} h tt & in-abs {w = w64} k tt & in-abs {w = w64} l tt & nil) tt
 
 -- the places after each part, and where they started
-abbrev after-west : tie.After-struct-told3 → tie.Start
+abbrev after-west : tie.After-struct_told-3-1 → tie.Start
 after-west c = let k = c.before.before.before in k.before.before.before
 
-abbrev after-east : tie.After-struct-told6 → tie.Start
+abbrev after-east : tie.After-struct_told-6-1 → tie.Start
 after-east c = let k = c.before.before.before in after-west k.before.before.before
 
-abbrev after-south : tie.After-struct-told9 → tie.Start
+abbrev after-south : tie.After-struct_told-9-1 → tie.Start
 after-south c = let k = c.before.before.before in after-east k.before.before.before
 
-abbrev after-north : tie.After-struct-told12 → tie.Start
+abbrev after-north : tie.After-struct_told-12-1 → tie.Start
 after-north c = let k = c.before.before.before in after-south k.before.before.before
 
 -- ---------------- the sums
@@ -67,7 +67,7 @@ record Is (a x : ℤ) : Type 0 where
 
 is-part : {v e s : ℤ} → Abs≤ (2 * limit) v → Abs≤ limit e → Abs≤ limit s → Is (held v e s) (v *ℤ (e -ℤ s))
 is-part h k l = record {
-  same = reads 3 part (in-abs h tt & in-abs k tt & in-abs l tt & nil) tt;
+  same = reads 3 part (in-abs {w = w64} h tt & in-abs {w = w64} k tt & in-abs {w = w64} l tt & nil) tt;
   small = within 3 (λ v e s. v :* (e :- s)) (h & k & l & nil);
 }
 
@@ -117,39 +117,39 @@ adds-picked c m p f e f' e' =
     adds (is-picked m p (is-part v.x-in q.xmin-in s.x-in) (is-part v.x-in q.xmax-in s.x-in) f e)
     (is-picked m p (is-part v.y-in q.ymin-in s.y-in) (is-part v.y-in q.ymax-in s.y-in) f' e')
 
-abbrev start : tie.After-greater2 → tie.Start
+abbrev start : tie.After-greater-2 → tie.Start
 start c = after-north c.before.before
 
-adds-greatest : (c : tie.After-greater2)
-    → Adds (back c.before.greater.result) (back c.greater2.result) (at greatest (start c))
+adds-greatest : (c : tie.After-greater-2)
+    → Adds (back c.before.greater.result) (back c.greater-2.result) (at greatest (start c))
 adds-greatest c =
-    adds-picked (start c) max_z max-picks c.before.greater.type-inv c.before.greater.ensures
-    c.greater2.type-inv c.greater2.ensures
+    adds-picked (start c) max_z max-picks c.before.greater.type_inv c.before.greater.ensures
+    c.greater-2.type_inv c.greater-2.ensures
 
 -- ---------------- the tests
 -- what the first says, b, and then the second
-both : (c : tie.After-greater2) {b : Bool}
+both : (c : tie.After-greater-2) {b : Bool}
     → let a = (start c).args in
-    lt_z (back (back c.before.greater.result +ℤ back c.greater2.result)) (back a.lo) ≡ b
+    lt_z (back (back c.before.greater.result +ℤ back c.greater-2.result)) (back a.lo) ≡ b
     → (b || lt_z a.hi (at least (start c))) ≡ beyond_corners (t_at a.s a.v) a.lo a.hi a.other
 both c t =
     let a = (start c).args in
     let e = sym (λ d. lt_z ((adds-greatest c).is d) (to_z-of_z (start c).ranges.lo d)) ∙ t in
     sym (λ d. e d || lt_z a.hi (at least (start c))) ∙ by_parts a.s a.v a.other a.lo a.hi
 
-adds-least : (c : tie.After-lesser2)
-    → Adds (back c.before.lesser.result) (back c.lesser2.result) (at least (start c.before.before.before))
+adds-least : (c : tie.After-lesser-2)
+    → Adds (back c.before.lesser.result) (back c.lesser-2.result) (at least (start c.before.before.before))
 adds-least c =
-    adds-picked (start c.before.before.before) min_z min-picks c.before.lesser.type-inv c.before.lesser.ensures
-    c.lesser2.type-inv c.lesser2.ensures
+    adds-picked (start c.before.before.before) min_z min-picks c.before.lesser.type_inv c.before.lesser.ensures
+    c.lesser-2.type_inv c.lesser-2.ensures
 
-returns-2 : tie.Need-returns-2
+returns-2 : tie.Need-returns
 returns-2 c =
     let g = c.before.before.before in
-    (λ d. lt_z (to_z-of_z (start g).ranges.hi d) ((adds-least c).is d)) ∙ both g c.before.before.if1.false
+    (λ d. lt_z (to_z-of_z (start g).ranges.hi d) ((adds-least c).is d)) ∙ both g c.before.before.if-greater-lo.false
 
-pub beyond-spec : {M : Type 1} → statement M
-beyond-spec =
+pub beyond_spec : {M : Type 1} → statement M
+beyond_spec =
     tie.close
     (tie.spec (λ c. let k = c.before.before in search (sub-fits, k.before.before.requires))
     (λ c. search (mul-fits, (after-west c).requires))
@@ -159,5 +159,5 @@ beyond-spec =
     (λ c. search (mul-fits, (after-south c).requires))
     (λ c. let k = c.before.before in search (sub-fits, (after-south k.before.before).requires))
     (λ c. search (mul-fits, (after-north c).requires))
-    (λ c κs. search rules) (λ c κs. search rules) (λ c. (adds-greatest c).fit) (λ c. both c.before c.if1.true)
+    (λ c κs. search rules) (λ c κs. search rules) (λ c. (adds-greatest c).fit) (λ c. both c.before c.if-greater-lo.true)
     (λ c κs. search rules) (λ c κs. search rules) (λ c. (adds-least c).fit) returns-2)

@@ -26,14 +26,14 @@ by_first s b = let a = s.args in b || beyond_corners (t_at a.s a.u) a.row.tmin a
 beyond-requires : tie.Need-beyond-requires
 beyond-requires c κs =
     let t = c.before.before in
-    let small = subst Small (sym t.turned.ensures) (turned-small t.before.requires.1) in search small
+    let small = subst Small (sym t.turned-v.ensures) (turned-small t.before.requires.1) in search small
 
 -- the first call says what c does
 first : (c : tie.After-beyond) {b : Bool} → c.beyond.result ≡ b
     → let a = (start c).args in by_first (start c) b ≡ strip_apart a.row a.s a.u a.other
 first c e =
     let a = (start c).args in
-    let v = c.before.before.before.turned in
+    let v = c.before.before.before.turned-v in
     let stored =
     both-back {x = a.row.cmin} {y = a.row.cmax} (λ lo hi. beyond_corners (t_at a.s v.result) lo hi a.other)
     (search rules) (search rules)
@@ -47,14 +47,14 @@ second s =
     let a = s.args in
     both-back (λ lo hi. beyond_corners (t_at a.s a.u) lo hi a.other) (search rules) (search rules)
 
-returns-2 : tie.Need-returns-2
+returns-2 : tie.Need-returns
 returns-2 c =
     let f = c.before.before.before in
     let stored = second (start f.before) in
-    let says = first f.before f.if1.false in cc
+    let says = first f.before f.if-beyond.false in cc
 
-pub strip-apart-spec : {M : Type 1} → statement M
-strip-apart-spec =
+pub strip_apart_spec : {M : Type 1} → statement M
+strip_apart_spec =
     tie.close
-    (tie.spec (λ c κs. search rules) beyond-requires (λ c. first c.before c.if1.true)
+    (tie.spec (λ c κs. search rules) beyond-requires (λ c. first c.before c.if-beyond.true)
     (λ c κs. search rules) returns-2)

@@ -20,11 +20,12 @@ returns c =
     let u = c.before.before.before.args.u in
     let p = c.before.before.before.requires in
     let y =
-    reads 1 formula {ts = (w64, 2 * limit) ∷ []} (in-abs p.y-in tt & nil) tt
+    reads 1 formula {ts = (w64, 2 * limit) ∷ []} (in-abs {w = w64} p.y-in tt & nil) tt
     ∙ ring 1 (λ y. con (pos 0) :- y := :neg y) tt u.y
     in
     λ d. record { x = y d; y = stored p.x-in tt d }
 
-pub turned-spec : {M : Type 1} → statement M
-turned-spec =
-    tie.close (tie.spec (λ c. safe-step 1 formula 0 (in-abs c.before.before.requires.y-in tt & nil) tt) returns)
+pub turned_spec : {M : Type 1} → statement M
+turned_spec =
+    tie.close
+    (tie.spec (λ c. safe-step 1 formula 0 (in-abs {w = w64} c.before.before.requires.y-in tt & nil) tt) returns)
