@@ -1,7 +1,6 @@
 -- `inner_step` makes the tests of the definition in its order.
 use mathlib.Core.Path.{◌≡◌, sym, ◌∙◌, ap}
 use mathlib.Core.Bool.{Bool, true}
-use borrow.Author.Tests.{not-true, not-false}
 use Rattle.rules.specs.Plane.{direction}
 use Rattle.rules.specs.Plain.{crosses}
 use Rattle.rules.specs.Questions.{split_in, clear_of}
@@ -25,28 +24,28 @@ module _ (s : tie.Start) where
   abbrev said_by : Bool → Bool → Step
   said_by = inner_by (split_in s.args.r) (crosses s.args.z s.args.a s.args.b)
 
-returns : tie.Need-returns
+returns : tie.Need-returns-then-not-splits_inside
 returns c =
     let s = c.before.before in
-    let e = sym c.before.splits-inside.ensures ∙ not-true _ c.if1.true in
+    let e = sym c.before.splits_inside.ensures ∙ c.if-not-splits_inside.true in
     sym (λ i. said_by s (e i) (is_clear s))
 
-was-good : (c : tie.Else1) → fits c.before.before ≡ true
-was-good c = sym c.before.splits-inside.ensures ∙ not-false _ c.if1.false
+was-good : (c : tie.Else-not-splits_inside) → fits c.before.before ≡ true
+was-good c = sym c.before.splits_inside.ensures ∙ c.if-not-splits_inside.false
 
 -- the rule of a split holds: whether z is clear of the node decides
-decided : (c : tie.After-clear-of) {clear : Bool} → c.Clear-of.result ≡ clear
+decided : (c : tie.After-clear_of) {clear : Bool} → c.clear_of.result ≡ clear
     → let s = c.before.before.before in said_by s true clear ≡ said_by s (fits s) (is_clear s)
 decided c clear = let good = was-good c.before in cc
 
-split-of-requires : tie.Need-split-of-requires
-split-of-requires c κs =
+split_of-requires : tie.Need-split_of-requires
+split_of-requires c κs =
     let k = c.before.before in
     let a = k.before.before.args in split-above a.r a.first a.last (was-good k)
 
-pub inner-step-spec : {M : Type 1} → statement M
-inner-step-spec =
+pub inner_step_spec : {M : Type 1} → statement M
+inner_step_spec =
     tie.close (tie.spec
     (λ c κs. search rules) returns (λ c κs. search rules) (λ c κs. search rules)
-    (λ c. ap Pass c.crosses.ensures ∙ decided c.before.before c.before.if2.true) split-of-requires
-    (λ c. ap Halve c.split-of.ensures ∙ decided c.before.before c.before.if2.false))
+    (λ c. ap Pass c.crosses.ensures ∙ decided c.before.before c.before.if-clear_of.true) split_of-requires
+    (λ c. ap Halve c.split_of.ensures ∙ decided c.before.before c.before.if-clear_of.false))

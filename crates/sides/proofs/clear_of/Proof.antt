@@ -7,15 +7,15 @@ use borrow.Author.Rules.{rules}
 use Rattle.sides.proofs.clear_of.Statement.{statement}
 use Rattle.sides.proofs.clear_of.Tie as tie
 
-clear-along-requires : tie.Need-clear-along-requires
-clear-along-requires c κs =
+clear_along-requires : tie.Need-clear_along-requires
+clear_along-requires c κs =
     let on : OnSheet c.before.args.z = search rules in
     (search rules, subst Small (sym c.direction.ensures) (direction-small (search rules) (search rules)), on)
 
 returns : tie.Need-returns
 returns c =
     let a = c.before.before.args in
-    c.clear-along.ensures ∙ (λ d. clear_of a.r a.a (c.before.direction.ensures d) a.z)
+    c.clear_along.ensures ∙ (λ d. clear_of a.r a.a (c.before.direction.ensures d) a.z)
 
-pub clear-of-spec : {M : Type 1} → statement M
-clear-of-spec = tie.close (tie.spec (search rules) clear-along-requires returns)
+pub clear_of_spec : {M : Type 1} → statement M
+clear_of_spec = tie.close (tie.spec (search rules) clear_along-requires returns)

@@ -9,6 +9,7 @@ use Rattle.rules.specs.declared.Point.{Point}
 use Rattle.rules.specs.Plain.{low_high, side_of, crosses}
 use Rattle.limits.specs.Small.{OnSheet}
 use Rattle.line.proofs.Stored.{stored}
+use Rattle.sides.proofs.crosses.Lts.{then-falls, else-falls, then-falls-2, else-falls-2}
 use Rattle.sides.proofs.crosses.Statement.{statement}
 use Rattle.sides.proofs.crosses.Tie as tie
 
@@ -33,37 +34,37 @@ unfolding crosses
 climbing z a b k = sym ((λ d. rising z a b || no-rise z b a k d) ∙ or-false (rising z a b))
 
 -- ---------------- the ends that were chosen
-abbrev start : tie.Joined2 → tie.Start
+abbrev start : tie.Joined-falls-2 → tie.Start
 start c = c.before.before.before.before.before.before
 
 -- l is b and h is a where b is lower, and else they are a and b
-abbrev Falls : tie.Joined2 → Type 0
+abbrev Falls : tie.Joined-falls-2 → Type 0
 Falls c =
-    let s = (start c).args in (c.before.if1.l ≡ s.b) × (c.if2.h ≡ s.a) × (s.b.y ≤ℤ s.a.y)
+    let s = (start c).args in (c.before.if-falls.l ≡ s.b) × (c.if-falls-2.h ≡ s.a) × (s.b.y ≤ℤ s.a.y)
 
-abbrev Climbs : tie.Joined2 → Type 0
+abbrev Climbs : tie.Joined-falls-2 → Type 0
 Climbs c =
-    let s = (start c).args in (c.before.if1.l ≡ s.a) × (c.if2.h ≡ s.b) × (s.a.y ≤ℤ s.b.y)
+    let s = (start c).args in (c.before.if-falls.l ≡ s.a) × (c.if-falls-2.h ≡ s.b) × (s.a.y ≤ℤ s.b.y)
 
 -- a test does not come out both ways
 not-both : {A : Type 0} {b : Bool} → b ≡ true → b ≡ false → A
 not-both p q = absurd (true≢false (sym p ∙ q))
 
-ends : (c : tie.Joined2) → Falls c ⊎ Climbs c
+ends : (c : tie.Joined-falls-2) → Falls c ⊎ Climbs c
 ends c =
     let s = start c in
-    let a = stored s.pre.1.y-in tt in
-    let b = stored s.pre.2.y-in tt in
-    ⊎_elim
-    (λ v. ⊎_elim
-    (λ w. inl (v.1, w.1, <ℤ-weaken (lt_yes b a v.0.taken)))
-    (λ w. not-both v.0.taken w.0.left)
-    c.if2.branch)
-    (λ v. ⊎_elim
-    (λ w. not-both w.0.taken v.0.left)
-    (λ w. inr (v.1, w.1, lt_no b a v.0.left))
-    c.if2.branch)
-    c.before.if1.branch
+    let a = stored s.requires.1.y-in tt in
+    let b = stored s.requires.2.y-in tt in
+    elim c.before.if-falls.branch [
+      | then-falls v ↦ elim c.if-falls-2.branch [
+        | then-falls-2 w ↦ inl (v.l-is, w.h-is, <ℤ-weaken (lt_yes b a v.if-falls.true))
+        | else-falls-2 w ↦ not-both v.if-falls.true w.if-falls-2.false
+      ]
+      | else-falls v ↦ elim c.if-falls-2.branch [
+        | then-falls-2 w ↦ not-both w.if-falls-2.true v.if-falls.false
+        | else-falls-2 w ↦ inr (v.l-is, w.h-is, lt_no b a v.if-falls.false)
+      ]
+    ]
 
 rises-requires : tie.Need-rises-requires
 rises-requires c κs =
@@ -77,9 +78,9 @@ returns : tie.Need-returns
 returns c =
     let s = (start c.before).args in
     ⊎_elim
-    (λ f. rw (f.0, f.1, falling s.z s.a s.b f.2) at c.rises.ensures)
-    (λ f. rw (f.0, f.1, climbing s.z s.a s.b f.2) at c.rises.ensures)
+    (λ f. c.rises.ensures ∙ (λ d. rising s.z (f.0 d) (f.1 d)) ∙ falling s.z s.a s.b f.2)
+    (λ f. c.rises.ensures ∙ (λ d. rising s.z (f.0 d) (f.1 d)) ∙ climbing s.z s.a s.b f.2)
     (ends c.before)
 
-pub crosses-spec : {M : Type 1} → statement M
-crosses-spec = tie.close (tie.spec rises-requires returns)
+pub crosses_spec : {M : Type 1} → statement M
+crosses_spec = tie.close (tie.spec rises-requires returns)

@@ -19,24 +19,24 @@ h-y : (c : tie.Start) → to_z w64 (of_z w64 c.args.h.y) ≡ c.args.h.y
 h-y c = let f : SFits w64 c.args.h.y = search rules in to_z-of_z f
 
 -- the places of the code: once the first comparison is read, and where it went on
-abbrev start : tie.After-struct-told2 → tie.Start
+abbrev start : tie.After-struct_told-2-1 → tie.Start
 start c = c.before.before.before.before
 
-abbrev asked : tie.After-struct-told4 → tie.Then1
+abbrev asked : tie.After-struct_told-then-l-z-2-1 → tie.Then-l-z
 asked c = c.before.before.before.before
 
-returns : tie.Need-returns
+returns : tie.Need-returns-then-l-z
 returns c =
     let p = asked c in
     let s = start p.before in
-    let h : le_z s.args.l.y s.args.z.y ≡ true = sym (λ d. le_z (l-y s d) (z-y s d)) ∙ p.if1.taken in
+    let h : le_z s.args.l.y s.args.z.y ≡ true = sym (λ d. le_z (l-y s d) (z-y s d)) ∙ p.if-l-z.true in
     (λ d. lt_z (z-y s d) (h-y s d)) ∙ sym (λ d. h d && lt_z s.args.z.y s.args.h.y)
 
-returns-2 : tie.Need-returns-2
+returns-2 : tie.Need-returns-else-l-z
 returns-2 c =
     let s = start c.before in
-    let h : le_z s.args.l.y s.args.z.y ≡ false = sym (λ d. le_z (l-y s d) (z-y s d)) ∙ c.if1.false in
-    c.if1.false ∙ sym (λ d. h d && lt_z s.args.z.y s.args.h.y)
+    let h : le_z s.args.l.y s.args.z.y ≡ false = sym (λ d. le_z (l-y s d) (z-y s d)) ∙ c.if-l-z.false in
+    c.if-l-z.false ∙ sym (λ d. h d && lt_z s.args.z.y s.args.h.y)
 
-pub low-high-spec : {M : Type 1} → statement M
-low-high-spec = tie.close (tie.spec returns returns-2)
+pub low_high_spec : {M : Type 1} → statement M
+low_high_spec = tie.close (tie.spec returns returns-2)

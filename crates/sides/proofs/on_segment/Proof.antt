@@ -4,7 +4,6 @@ use mathlib.Core.Bool.{Bool, ◌&&◌}
 use lib.IntN.{pos}
 use mir.Syntax.{w64}
 use mir.Facts.{sfits_lit}
-use borrow.Author.Tests.{not-true, not-false}
 use Rattle.integers.specs.Order.{eq_z}
 use Rattle.integers.specs.Machine.{eq-bits}
 use Rattle.rules.specs.Plane.{step, c_at}
@@ -26,57 +25,57 @@ abbrev straight : tie.Start → Bool
 straight s = eq_z (c_at s.args.a (step s.args.a s.args.b) s.args.z) (pos 0)
 
 -- the places of the code: at its start, and once z is beside the segment
-abbrev start : tie.After-range-holds → tie.Start
+abbrev start : tie.After-range_holds → tie.Start
 start c = c.before.before.before.before
 
-abbrev once-beside : tie.After-range-holds2 → tie.Else1
+abbrev once-beside : tie.After-range_holds-2 → tie.Else-not-range_holds
 once-beside c = c.before.before.before.before
 
-abbrev start-2 : tie.After-range-holds2 → tie.Start
+abbrev start-2 : tie.After-range_holds-2 → tie.Start
 start-2 c = start (once-beside c).before
 
-beside-told : (c : tie.After-range-holds) → c.range-holds.result ≡ beside (start c)
+beside-told : (c : tie.After-range_holds) → c.range_holds.result ≡ beside (start c)
 beside-told c =
     let p = (start c).requires in
-    c.range-holds.ensures
+    c.range_holds.ensures
     ∙ (λ d. range_holds (stored p.1.x-in tt d) (stored p.2.x-in tt d) (stored p.0.x-in tt d))
 
-level-told : (c : tie.After-range-holds2) → c.range-holds2.result ≡ level (start-2 c)
+level-told : (c : tie.After-range_holds-2) → c.range_holds-2.result ≡ level (start-2 c)
 level-told c =
     let p = (start-2 c).requires in
-    c.range-holds2.ensures
+    c.range_holds-2.ensures
     ∙ (λ d. range_holds (stored p.1.y-in tt d) (stored p.2.y-in tt d) (stored p.0.y-in tt d))
 
-returns : tie.Need-returns
+returns : tie.Need-returns-then-not-range_holds
 unfolding on_segment
 returns c =
     let s = start c.before in
-    let e = sym (beside-told c.before) ∙ not-true _ c.if1.true in sym (λ d. e d && level s && straight s)
+    let e = sym (beside-told c.before) ∙ c.if-not-range_holds.true in sym (λ d. e d && level s && straight s)
 
-returns-2 : tie.Need-returns-2
+returns-2 : tie.Need-returns-then-not-range_holds-2
 unfolding on_segment
 returns-2 c =
     let b = once-beside c.before in
-    let e = sym (beside-told b.before) ∙ not-false _ b.if1.left in
-    let f = sym (level-told c.before) ∙ not-true _ c.if2.true in
+    let e = sym (beside-told b.before) ∙ b.if-not-range_holds.false in
+    let f = sym (level-told c.before) ∙ c.if-not-range_holds-2.true in
     sym (λ d. e d && f d && straight (start b.before))
 
-returns-3 : tie.Need-returns-3
+returns-3 : tie.Need-returns
 unfolding on_segment
 returns-3 c =
     let k = c.before.before in
     let b = once-beside k.before in
     let s = start b.before in
-    let e = sym (beside-told b.before) ∙ not-false _ b.if1.left in
-    let f = sym (level-told k.before) ∙ not-false _ k.if2.false in
+    let e = sym (beside-told b.before) ∙ b.if-not-range_holds.false in
+    let f = sym (level-told k.before) ∙ k.if-not-range_holds-2.false in
     let u = c.before.step.ensures in
-    eq-bits w64 {x = c.c-at.result} {y = pos 0} (record { sfits = c.c-at.type-inv }) (sfits_lit {z = pos 0} tt)
-    ∙ (λ d. eq_z (c.c-at.ensures d) (pos 0))
+    eq-bits w64 {x = c.c_at.result} {y = pos 0} (record { sfits = c.c_at.type_inv }) (sfits_lit {z = pos 0} tt)
+    ∙ (λ d. eq_z (c.c_at.ensures d) (pos 0))
     ∙ (λ d. eq_z (c_at s.args.a (u d) s.args.z) (pos 0))
     ∙ sym (λ d. e d && f d && straight s)
 
-pub on-segment-spec : {M : Type 1} → statement M
-on-segment-spec =
+pub on_segment_spec : {M : Type 1} → statement M
+on_segment_spec =
     tie.close (tie.spec
     (search rules) returns (search rules) returns-2 (search rules)
     (λ c κs. let p = (start-2 c.before.before).requires in (p.1, stepped p.1 p.2 c.step.ensures, p.0))

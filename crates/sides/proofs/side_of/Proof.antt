@@ -21,9 +21,9 @@ returns : tie.Need-returns
 returns c =
     let a = c.before.before.args in
     let e = ap (λ (u : Point). c_at a.l u a.z) c.before.step.ensures in
-    result w64 c.c-at.type-inv (c.c-at.ensures ∙ e ∙ c-is-side a.z a.l a.h)
+    result w64 c.c_at.type_inv (c.c_at.ensures ∙ e ∙ c-is-side a.z a.l a.h)
 
-pub side-of-spec : {M : Type 1} → statement M
-side-of-spec =
+pub side_of_spec : {M : Type 1} → statement M
+side_of_spec =
     tie.close (tie.spec
     (search rules) (λ c κs. let p = c.before.requires in (p.1, stepped p.1 p.2 c.step.ensures, p.0)) returns)
