@@ -1,5 +1,5 @@
 -- A text line is a list of bytes: its fields are parted by tabs, and words are compared byte for byte.
-use Rattle.std.specs.Prelude.{Bool, true, false, cond, ◌&&◌, List, [], ◌∷◌, ℕ, zero, suc, eqb, get_or}
+use Rattle.std.specs.Prelude.{Bool, true, false, cond, ◌&&◌, List, [], ◌∷◌, ℕ, eqb, get_or}
 
 abbrev pub tab : ℕ
 tab = 9

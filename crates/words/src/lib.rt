@@ -45,7 +45,7 @@ enum Visits {
 }
 
 // The records that hold numbers.
-#[derive(Drop)]
+#[derive(Clone, Copy)]
 enum Form {
     Pt,
     Near,

@@ -8,19 +8,19 @@ use borrow.Author.Rules.{rules}
 use Rattle.words.proofs.is.Statement.{statement}
 use Rattle.words.proofs.is.Tie as tie
 
-returns : tie.Need-returns
+returns : tie.Need-returns-then-count-wanted
 unfolding is
 returns c =
     let s = c.before.before.before.args in
-    sym (λ d. ne_eqb s.count s.wanted c.if1.true d && same_bytes s.first.now s.word.now)
+    sym (λ d. ne_eqb s.count s.wanted c.if-count-wanted.true d && same_bytes s.first.now s.word.now)
 
-returns-2 : tie.Need-returns-2
+returns-2 : tie.Need-returns
 unfolding is
 returns-2 c =
     let s = c.before.before.before.before.args in
-    let same = eq-eqb s.count s.wanted c.before.if1.false in
+    let same = eq-eqb s.count s.wanted c.before.if-count-wanted.false in
     c.same_bytes.ensures ∙ sym (λ d. same d && same_bytes s.first.now s.word.now)
 
-pub is-spec : {M : Type 1} → statement M
-is-spec =
+pub is_spec : {M : Type 1} → statement M
+is_spec =
     tie.close (tie.spec returns (search rules) returns-2)

@@ -5,8 +5,8 @@ use borrow.Author.Rules.{rules}
 use Rattle.words.proofs.places_of.Statement.{statement}
 use Rattle.words.proofs.places_of.Tie as tie
 
-pub places-of-spec : {M : Type 1} → statement M
-places-of-spec =
+pub places_of_spec : {M : Type 1} → statement M
+places_of_spec =
     tie.close (tie.spec
     (search rules) (search rules) (search rules) (search rules) (search rules) (search rules) (search rules)
     (search rules) (search rules) (search rules) (search rules) (search rules) (λ c. search (by-case places_of))
