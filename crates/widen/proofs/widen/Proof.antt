@@ -2,7 +2,7 @@
 use mathlib.Core.Path.{◌≡◌, refl, sym, ◌∙◌, ap}
 use mathlib.Core.List.{◌++◌}
 use mathlib.Core.Option.{some}
-use Prim.Native.Nat.{◌+◌, ◌-◌, ◌≤◌, ◌<◌}
+use Prim.Native.Nat.{◌-◌, ◌≤◌, ◌<◌}
 use native.Mathlib.Nat.{zero-add}
 use native.Mathlib.Numerals.{add-one}
 use native.Mathlib.Omega.{arith}
@@ -18,29 +18,29 @@ use borrow.Author.Rules.{rules}
 use Rattle.widen.proofs.widen.Statement.{statement}
 use Rattle.widen.proofs.widen.Tie as tie
 
-abbrev invariant-loop : tie.invariant-loop
+abbrev invariant-loop : tie.invariant-loop-i
 invariant-loop old new₀ i₀ new i = (new ≡ paste new₀ 0 old i) × (i ≤ length old) × (length new ≡ length new₀)
 
-abbrev decreases-loop : tie.decreases-loop
+abbrev decreases-loop : tie.decreases-loop-i
 decreases-loop old new₀ i₀ new i = length old - i
 
 -- fewer numbers are lent: refusal 6
-returns : tie.Need-returns invariant-loop decreases-loop
+returns : tie.Need-returns-then-new-old invariant-loop decreases-loop
 unfolding widen_refusal widened
 returns c =
-    let few = lt-ltb _ _ c.before.if1.true in
+    let few = lt-ltb _ _ c.before.if-new-old.true in
     (simp few (ap some c.early.ensures), sym (simp few))
 
 -- the number that is read, as it is stored
-module _ (c : tie.After-new invariant-loop decreases-loop) where
-  abbrev loop-at : tie.At-loop invariant-loop decreases-loop
+module _ (c : tie.After-new-1 invariant-loop decreases-loop) where
+  abbrev loop-at : tie.At-loop-i invariant-loop decreases-loop
   loop-at = c.before.before
 
   abbrev start : tie.Start invariant-loop decreases-loop
   start = loop-at.before.before
 
   abbrev read : ℤ
-  read = get_or start.args.old.now loop-at.loop.i (pos 0)
+  read = get_or start.args.old.now loop-at.loop-i.i (pos 0)
 
   read_fits : SFits w32 read
   read_fits = search rules
@@ -51,30 +51,30 @@ module _ (c : tie.After-new invariant-loop decreases-loop) where
   same : to_z w64 (of_z w64 (to_z w32 (of_z w32 read))) ≡ read
   same = to_z-of_z wide_fits ∙ to_z-of_z read_fits
 
-loop-again : tie.Need-loop-preserved invariant-loop decreases-loop
+loop-again : tie.Need-loop-i-preserved invariant-loop decreases-loop
 loop-again c =
-    let loop = (loop-at c).loop in
+    let loop = (loop-at c).loop-i in
     let old = (start c).args.old.now in
     let new = (start c).args.new.now in
-    let below : loop.i < length old = c.before.loop-test.true in
-    let room : length old ≤ length new = (loop-at c).before.if1.false in
+    let below : loop.i < length old = c.before.loop-i-test.true in
+    let room : length old ≤ length new = (loop-at c).before.if-new-old.false in
     let at = zero-add loop.i in (
-      (λ t. set (loop.inv.0 t) (sym at t) (same c t))
+      (λ t. set (loop.invariant.0 t) (sym at t) (same c t))
           ∙ paste-suc new 0 old loop.i (pos 0) (omega arith) below
           ∙ ap (paste new 0 old) (sym (add-one loop.i)),
       omega arith,
-      length-set loop.new loop.i _ ∙ loop.inv.2,
+      length-set loop.new loop.i _ ∙ loop.invariant.2,
     )
 
-returns-2 : tie.Need-returns-2 invariant-loop decreases-loop
+returns-2 : tie.Need-returns invariant-loop decreases-loop
 unfolding widen_refusal widened
 returns-2 c =
-    let loop = c.before.loop in
+    let loop = c.before.loop-i in
     let k = c.before.before in
     let old = k.before.args.old.now in
     let new = k.before.args.new.now in
-    let enough = le-ltb (length new) (length old) k.if1.false in
-    let all : loop.i ≡ length old = omega (arith, loop.invariant.1, c.loop-test.false) in
+    let enough = le-ltb (length new) (length old) k.if-new-old.false in
+    let all : loop.i ≡ length old = omega (arith, loop.invariant.1, c.loop-i-test.false) in
     let whole : loop.new ≡ old ++ drop (length old) new =
     loop.invariant.0 ∙ ap (paste new 0 old) all
     ∙ (λ t. take-length old t ++ drop (zero-add (length old) t) new) in
@@ -86,4 +86,4 @@ widen_spec =
     invariant-loop decreases-loop (search rules) returns
     (λ c. (paste-zero c.before.args.new.now 0 c.before.args.old.now, omega arith, refl)) (search rules)
     (search rules) wide_fits (search rules) (search rules) (search rules) (search rules) loop-again
-    (λ c. c.before.loop.invariant.2) returns-2)
+    (λ c. c.before.loop-i.invariant.2) returns-2)
