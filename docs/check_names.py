@@ -19,6 +19,7 @@ ROOT = Path(__file__).resolve().parent.parent
 NAMING = ["docs/RULES.md", "docs/STATEMENTS.md", "docs/UNIQUE.md", "docs/TRUST.md"]  # every backticked word is a name
 MENTIONING = ["README.md", "CONTRIBUTING.md", "docs/REGULATOR.md"]  # commands and other languages stand there too
 FOREIGN = {"none", "requires", "read", "write", "libc::read", "libc::write", "pkg-config"}  # not declared here
+FOREIGN |= {"kneukelboom_widen", "kneukelboom_check", "link_name"}  # calls without their version, an attribute
 
 SPAN = r"`[^`\n]+`"
 FILE = r"[\w/]+\.(?:antt|rt)"
@@ -26,7 +27,7 @@ FILES = rf"\(({FILE}(?:,\s+{FILE})*)\)"
 CITED = re.compile(rf"((?:{SPAN}(?: \.\.)?(?:,| and)?\s+)+){FILES}")
 WORD = re.compile(r"[^\W\d][\w²′⊕<≤-]*")
 PATH = re.compile(r"[\w.-]+(?:/[\w.-]+)+")
-DISTINCT = re.compile(r"[a-zA-Z]-[a-zA-Z\d]|[a-z][A-Z]")  # near-built, nearReply: hardly another word looks so
+DISTINCT = re.compile(r"[a-zA-Z]-[a-zA-Z\d]|[a-z]_[a-z]|[a-z][A-Z]")  # near-built, near_reply: hardly another word
 SECTION = re.compile(r"RULES\.md,\s+section\s+(\d+(?:\.\d+)?)")
 OWN_SECTION = re.compile(r"section\s+(\d+(?:\.\d+)?)")  # in the rules themselves
 ELSEWHERE = re.compile(r"\bdocument \d\d\b", re.I)  # a paper that the repository does not have
@@ -57,7 +58,7 @@ def read_sources():
     """The names of each file below crates/, but for the wrong programs."""
     paths = [p for kind in ("antt", "rt") for p in (ROOT / "crates").glob(f"*/*/**/*.{kind}")]
     named = {p.relative_to(ROOT / "crates").as_posix(): p for p in paths}
-    return {name: declared(p) for name, p in named.items() if "/must-fail/" not in name}
+    return {name: declared(p) for name, p in named.items() if name.split("/")[1] not in ("must-fail", "out")}
 
 
 class Check:
@@ -163,7 +164,7 @@ def texts():
     """The files of the repository that people read."""
     kinds = {".md", ".antt", ".rt", ".rs", ".h", ".c", ".py", ".toml"}
     for folder, inner, files in os.walk(ROOT):
-        inner[:] = [name for name in inner if name not in ("target", ".git")]
+        inner[:] = [name for name in inner if name not in ("target", "out", ".git")]
         for path in (Path(folder, name) for name in files):
             if path.suffix in kinds:
                 yield path, read(path)
@@ -195,14 +196,14 @@ def main():
 
 def self_test():
     """Each kind of slip, once, between citations that are right."""
-    text = """`good`, `boxGood` (rules/specs/Rows.antt), `built-sound` (table_truth/proofs/Sound.antt), `near::near`.
+    text = """`good`, `box_good` (rules/specs/Rows.antt), `built-sound` (table_truth/proofs/Sound.antt), `near::near`.
 `godo` (rules/specs/Rows.antt)
 `good` (rules/specs/Row.antt)
 `good` (rules/specs/Tree.antt, Walk.antt)
 `near-bulit`, `near-built`
 `near::nearer`, `nearr::near`
 `KNEUKELBOOM_STACK_MEET`, `KNEUKELBOOM_LINE_A`, `KNEUKELBOOM_LINE_C`
-`r ≡ nearRepyl ..`, `r ≡ nearReply ..`, `sond`, `docs/check_names.py`, `docs/check_nmaes.py`
+`r ≡ near_repyl ..`, `r ≡ near_reply ..`, `sond`, `docs/check_names.py`, `docs/check_nmaes.py`
 | | of |
 | NEAR | `near-built` |
 | MEET | `meet-bulit` |
