@@ -11,8 +11,10 @@ use mir.Val.{SFits, to_z, of_z}
 use Rattle.integers.specs.Laws.{zarith}
 use Rattle.integers.specs.Check.{con, ◌:+◌, ◌:*◌, ◌:-◌, :neg, ◌:≤◌, ◌:=◌, hyp, num, sqr, mul, ◌⊞◌, ring, prove}
 use Rattle.integers.specs.Check.{scaled, refute, lin}
-use Rattle.integers.specs.Range.{Abs≤, Each, nil, ◌&◌, within, fits}
-use Rattle.integers.specs.Machine.{In, at_width, rd, ◌⊗◌, in-fits, ins-abs, safe-step, reads}
+use Rattle.integers.specs.Range.{Abs≤, Each, nil, ◌&◌}
+use Rattle.integers.proofs.Bounded.{within, fits}
+use Rattle.integers.specs.Machine.{In, at_width, rd, ◌⊗◌, in-fits, ins-abs}
+use Rattle.integers.proofs.Worth.{safe-step, reads}
 use Rattle.integers.specs.Ops.{Ops, onℤ, on_e, on_m}
 
 -- ---------------- a formula, once for all readings

@@ -1,6 +1,4 @@
 -- Bounds on magnitudes: what |x| ≤ B says, and the bound of a polynomial of bounded numbers, which is computed.
--- `within 2 f (h & k & nil)` bounds f of two bounded numbers, and `fits 2 w f (h & k & nil) tt` says that it fits the
--- signed width w.
 use Rattle.std.specs.Prelude.{◌≡◌, refl, List, [], ◌∷◌, ℕ, zero, suc, ◌+◌, ◌*◌, ◌-◌, ◌^◌, ◌≤◌, ◌<◌, T, ltb, leb, ℤ, pos, negsuc, neg_ℤ, nat_abs, ◌+ℤ◌, ◌-ℤ◌, ◌*ℤ◌, ◌≤ℤ◌}
 use Rattle.std.proofs.Common.{subst, mul-le-mul, le_trans, le_of_eq, add-le-add, lt_of_le_of_lt, le_refl, arith, ltb→lt, nltb→le, leb→le}
 use Rattle.std.proofs.Math.IntN.{sub_ℕ}
@@ -8,8 +6,7 @@ use Rattle.std.specs.Int.Signed.{mag}
 use Rattle.std.specs.Int.{Width}
 use mir.Val.{SFits, hbits}
 use Rattle.integers.specs.Laws.{P, N, P-neg, N-neg, le_read, cond_ind, zarith}
-use Rattle.integers.specs.Poly.{Expr, var, con, ◌:+◌, ◌:*◌, ◌:-◌, :neg, look, ⟦◌⟧}
-use Rattle.integers.specs.Check.{Fun, vars}
+use Rattle.integers.specs.Poly.{Expr, var, con, ◌:+◌, ◌:*◌, ◌:-◌, :neg}
 
 -- ---------------- magnitudes
 
@@ -96,12 +93,6 @@ bnd (a :* b) bs = bnd a bs * bnd b bs
 bnd (a :- b) bs = bnd a bs + bnd b bs
 bnd (:neg a) bs = bnd a bs
 
-look-ok : (n : ℕ) {bs : List ℕ} {ρ : List ℤ} → Each Abs≤ bs ρ → nat_abs (look n ρ) ≤ lookℕ n bs
-look-ok zero nil = le_refl 0
-look-ok (suc n) nil = le_refl 0
-look-ok zero (h & hs) = h.abs
-look-ok (suc n) (h & hs) = look-ok n hs
-
 -- the magnitude of a sum, a product and a difference, each below the sum or the product of two bounds
 pub add-bound : (a b : ℤ) {m n : ℕ} → nat_abs a ≤ m → nat_abs b ≤ n → nat_abs (a +ℤ b) ≤ m + n
 add-bound a b h k = le_trans (abs-add a b) (add-le-add h k)
@@ -114,21 +105,3 @@ neg-bound a h = le_trans (le_of_eq (abs_neg a)) h
 
 pub sub-bound : (a b : ℤ) {m n : ℕ} → nat_abs a ≤ m → nat_abs b ≤ n → nat_abs (a -ℤ b) ≤ m + n
 sub-bound a b h k = add-bound a (neg_ℤ b) h (neg-bound b k)
-
-pub bnd-ok : (e : Expr) {bs : List ℕ} {ρ : List ℤ} → Each Abs≤ bs ρ → nat_abs (⟦ e ⟧ ρ) ≤ bnd e bs
-bnd-ok (var n) h = look-ok n h
-bnd-ok (con c) h = le_refl (nat_abs c)
-bnd-ok (a :+ b) {ρ} h = add-bound (⟦ a ⟧ ρ) (⟦ b ⟧ ρ) (bnd-ok a h) (bnd-ok b h)
-bnd-ok (a :* b) {ρ} h = mul-bound (⟦ a ⟧ ρ) (⟦ b ⟧ ρ) (bnd-ok a h) (bnd-ok b h)
-bnd-ok (a :- b) {ρ} h = sub-bound (⟦ a ⟧ ρ) (⟦ b ⟧ ρ) (bnd-ok a h) (bnd-ok b h)
-bnd-ok (:neg a) {ρ} h = neg-bound (⟦ a ⟧ ρ) (bnd-ok a h)
-
--- the magnitude of f of bounded numbers is at most f of the bounds, its differences made sums
-pub within : (n : ℕ) (f : Fun n Expr Expr) {bs : List ℕ} {ρ : List ℤ} → Each Abs≤ bs ρ
-    → Abs≤ (bnd (vars n f) bs) (⟦ vars n f ⟧ ρ)
-within n f h = record { abs = bnd-ok (vars n f) h }
-
--- and where that is below 2^31 or 2^63, f of them fits
-pub fits : (n : ℕ) (w : Width) (f : Fun n Expr Expr) {bs : List ℕ} {ρ : List ℤ} → Each Abs≤ bs ρ
-    → T (ltb (bnd (vars n f) bs) (2 ^ hbits w)) → SFits w (⟦ vars n f ⟧ ρ)
-fits n w f h t = fits-of w (within n f h) t

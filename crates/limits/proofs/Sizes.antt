@@ -4,7 +4,8 @@ use native.Mathlib.Omega.{arith}
 use lib.IntN.{pos}
 use Rattle.integers.specs.Laws.{cond_ind}
 use Rattle.integers.specs.Poly.{◌:+◌, ◌:*◌, ◌:-◌}
-use Rattle.integers.specs.Range.{Abs≤, nil, ◌&◌, within}
+use Rattle.integers.specs.Range.{Abs≤, nil, ◌&◌}
+use Rattle.integers.proofs.Bounded.{within}
 use Rattle.rules.specs.declared.Point.{Point}
 use Rattle.rules.specs.Plane.{same_point, step, direction, size², c_at, t_at}
 use Rattle.rules.specs.Sheet.{limit}

@@ -12,7 +12,7 @@ use mir.Facts.{and_yes}
 use Rattle.integers.specs.Laws.{zarith, cond_ind, PN-add, P-neg, N-neg, nn-add, nn-sq}
 use Rattle.integers.specs.Poly.{◌:*◌}
 use Rattle.integers.specs.Range.{Abs≤, abs-of, abs-lo, abs-hi, abs-at, abs-weaken, fits-of, nil, ◌&◌}
-use Rattle.integers.specs.Range.{within}
+use Rattle.integers.proofs.Bounded.{within}
 use Rattle.integers.specs.Machine.{nat-cast}
 use Rattle.rules.specs.Sheet.{farthest, distance_fits}
 use Rattle.rules.specs.Questions.{shortfall}

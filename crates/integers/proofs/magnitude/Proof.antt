@@ -9,8 +9,10 @@ use mir.Facts.{to_z-of_z}
 use Rattle.integers.specs.Laws.{zarith, P-neg, N-neg}
 use Rattle.integers.specs.Check.{con, ◌:-◌, :neg, ◌:=◌, ring}
 use Rattle.integers.specs.Order.{lt_yes, lt_no}
-use Rattle.integers.specs.Range.{Abs≤, nil, ◌&◌, abs_neg, fits}
-use Rattle.integers.specs.Machine.{MExpr, lit, rd, ◌⊖◌, in-abs, safe-step, reads, nat-cast}
+use Rattle.integers.specs.Range.{Abs≤, nil, ◌&◌, abs_neg}
+use Rattle.integers.proofs.Bounded.{fits}
+use Rattle.integers.specs.Machine.{MExpr, lit, rd, ◌⊖◌, in-abs, nat-cast}
+use Rattle.integers.proofs.Worth.{safe-step, reads}
 use borrow.Author.Rules.{rules}
 use Rattle.integers.proofs.magnitude.Statement.{statement}
 use Rattle.integers.proofs.magnitude.Tie as tie

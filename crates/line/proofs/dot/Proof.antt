@@ -1,6 +1,7 @@
 -- `dot` is the formula, and each of its steps fits 64 bits.
 use mir.Syntax.{w64}
-use Rattle.integers.specs.Machine.{MExpr, rd, ◌⊕◌, ◌⊗◌, safe-step, reads}
+use Rattle.integers.specs.Machine.{MExpr, rd, ◌⊕◌, ◌⊗◌}
+use Rattle.integers.proofs.Worth.{safe-step, reads}
 use Rattle.line.proofs.Smalls.{smalls}
 use Rattle.line.proofs.dot.Statement.{statement}
 use Rattle.line.proofs.dot.Tie as tie

@@ -1,7 +1,8 @@
 -- `step` is two differences.
 use mathlib.Core.List.{[], ◌∷◌}
 use mir.Syntax.{w64}
-use Rattle.integers.specs.Machine.{MExpr, In, at_width, ins-abs, rd, ◌⊖◌, safe-step, reads}
+use Rattle.integers.specs.Machine.{MExpr, In, at_width, ins-abs, rd, ◌⊖◌}
+use Rattle.integers.proofs.Worth.{safe-step, reads}
 use Rattle.integers.specs.Range.{Abs≤, Each, nil, ◌&◌}
 use Rattle.rules.specs.Sheet.{limit}
 use lib.IntN.{ℤ}

@@ -9,9 +9,11 @@ use mir.Val.{SFits}
 use mir.Facts.{to_z-of_z}
 use Rattle.integers.specs.Laws.{cond_ind}
 use Rattle.integers.specs.Check.{◌:+◌, ◌:*◌, ◌:-◌}
-use Rattle.integers.specs.Machine.{MExpr, rd, ◌⊖◌, ◌⊗◌, in-abs, safe-step, reads, result}
+use Rattle.integers.specs.Machine.{MExpr, rd, ◌⊖◌, ◌⊗◌, in-abs, result}
+use Rattle.integers.proofs.Worth.{safe-step, reads}
 use Rattle.integers.specs.Order.{min_z, max_z}
-use Rattle.integers.specs.Range.{Abs≤, abs-at, fits-of, nil, ◌&◌, within}
+use Rattle.integers.specs.Range.{Abs≤, abs-at, fits-of, nil, ◌&◌}
+use Rattle.integers.proofs.Bounded.{within}
 use Rattle.rules.specs.declared.Point.{Point}
 use Rattle.rules.specs.declared.Row.{Row}
 use Rattle.rules.specs.Sheet.{limit}

@@ -5,7 +5,8 @@ use Prim.Native.Nat.{◌*◌}
 use lib.IntN.{pos}
 use mir.Syntax.{w64}
 use Rattle.integers.specs.Check.{con, ◌:-◌, :neg, ◌:=◌, ring}
-use Rattle.integers.specs.Machine.{MExpr, lit, rd, ◌⊖◌, in-abs, safe-step, reads}
+use Rattle.integers.specs.Machine.{MExpr, lit, rd, ◌⊖◌, in-abs}
+use Rattle.integers.proofs.Worth.{safe-step, reads}
 use Rattle.integers.specs.Range.{nil, ◌&◌}
 use Rattle.rules.specs.Sheet.{limit}
 use Rattle.line.proofs.Stored.{stored}
