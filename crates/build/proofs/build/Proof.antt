@@ -18,32 +18,29 @@ use Rattle.build.proofs.build.Tie as tie
 
 -- the line and the table that are lent
 abbrev points : tie.Start → List ℤ
-points s = s.args.t1.now
+points s = s.args.points.now
 
 abbrev table : tie.Start → List ℤ
 table s = s.args.table.now
 
-returns : tie.Need-returns
+returns : tie.Need-returns-in-Refused
 returns c =
-    let checked = c.before.before.before in
-    let s = checked.before in
-    let e = sym (checked.check.ensures (table s) refl) ∙ ap checked_refusal c.before.checked.given.1 in
+    let s = c.before.before in
+    let e = sym (c.in-Refused.ensures (table s) refl) in
     (sym e, sym (built-refused (points s) (table s) _ e))
 
 -- past the checks
-abbrev start : tie.After-enum-told → tie.Start
-start c = c.before.before.before
+abbrev start : tie.In_default → tie.Start
+start c = c.before.before
 
-passed : (c : tie.After-enum-told) → build_refusal (points (start c)) (table (start c)) ≡ none
-passed c =
-    let w : c.before.before.check.result ≡ Fine = cc in
-    sym (c.before.before.check.ensures (table (start c)) refl) ∙ ap checked_refusal w
+passed : (c : tie.In_default) → build_refusal (points (start c)) (table (start c)) ≡ none
+passed c = sym (c.in_default.ensures (table (start c)) refl)
 
-fine : (c : tie.After-enum-told) → Buildable (points (start c)) (table (start c))
+fine : (c : tie.In_default) → Buildable (points (start c)) (table (start c))
 fine c = buildable _ _ (passed c)
 
-build-node-requires : tie.Need-build-node-requires
-build-node-requires c κs =
+build_node-requires : tie.Need-build_node-requires
+build_node-requires c κs =
     let y = fine c.before.before in
     let l = y.lengths in (
       omega (arith, l.some-points),
@@ -53,7 +50,7 @@ build-node-requires c κs =
       omega (arith, l.table-long, l.some-points),
     )
 
-returns-2 : tie.Need-returns-2
+returns-2 : tie.Need-returns
 unfolding table_of
 returns-2 c =
     let told = c.before.before.before.before in
@@ -62,11 +59,11 @@ returns-2 c =
     let n = sub-zero (segments_of ps) in (
       sym e,
       rw (built-whole ps (table (start told)) e)
-          (rw n at (c.before.build-node.ensures (segments_of ps) (omega arith))),
+          (rw n at (c.before.build_node.ensures (segments_of ps) (omega arith))),
     )
 
-pub build-spec : {M : Type 1} → statement M
-build-spec =
+pub build_spec : {M : Type 1} → statement M
+build_spec =
     tie.close (tie.spec
     (search rules) (search rules) returns (search rules) (λ c. omega (arith, (fine c).lengths.some-points))
-    build-node-requires (search rules) returns-2)
+    build_node-requires (search rules) returns-2)

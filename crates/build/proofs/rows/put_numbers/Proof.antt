@@ -20,8 +20,8 @@ returns c =
     let fit : AllFit row = search rules in
     sets-eq (stored row) t 0 c.requires ∙ (λ d. stored_same row fit d ++ drop width t)
 
-pub put-numbers-spec : {M : Type 1} → statement M
-put-numbers-spec =
+pub put_numbers_spec : {M : Type 1} → statement M
+put_numbers_spec =
     tie.close (tie.spec
     (λ c. omega arith) (λ c. simp length-set (omega arith)) (λ c. simp length-set (omega arith))
     (λ c. simp length-set (omega arith)) (λ c. simp length-set (omega arith)) (λ c. simp length-set (omega arith))
