@@ -4,7 +4,7 @@
 // as they are.
 #![tactic(auto)]
 
-#[derive(Drop)]
+#[derive(Clone, Copy)]
 pub struct Held {
     pub count: usize,
     pub over: bool,

@@ -17,7 +17,7 @@ use rules::{Line, Reply};
 
 // What is carried beside the lent slices: where points go, how the two lines are held, the text lines read, the lines
 // printed, and the bytes kept of the text line that has not ended.
-#[derive(Drop)]
+#[derive(Clone, Copy)]
 pub struct State {
     pub target: Line,
     pub a: Held,
