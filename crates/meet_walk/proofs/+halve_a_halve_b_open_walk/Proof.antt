@@ -1,11 +1,9 @@
 -- `walk` makes the visit of one level of the written walk; where it halves a node, `open` takes it by `halve_a` or
 -- `halve_b`, which go on in the halves. The rows of a half come after those of its pair: fewer are ahead of it.
-use mathlib.Core.Path.{◌≡◌, refl, sym, ◌∙◌, ap, subst}
+use mathlib.Core.Path.{◌≡◌, refl, sym, ◌∙◌, subst}
 use mathlib.Core.Bool.{false}
-use mathlib.Core.List.{List}
 use Prim.Native.Nat.{ℕ, ◌+◌, ◌*◌, ◌-◌, ◌<◌}
 use native.Mathlib.Omega.{arith}
-use lib.IntN.{ℤ}
 use Rattle.rules.specs.declared.Next.TheVariants.{Left, Spent}
 use Rattle.rules.specs.declared.Pair.{Pair}
 use Rattle.rules.specs.declared.Tally.{Tally}
@@ -159,114 +157,120 @@ module _ (t : ℕ) where
 
   -- ---------------- `halve_a`: the places after its fields are read, the row of the left half is asked for, that half
   -- is walked, it did not stop, the next tally is taken, and the row of the right half is asked for
-  abbrev opened_a : a-lts.After-struct-known a-claims a_at a-reads.Post → a-lts.Start a-claims a_at a-reads.Post
+  abbrev opened_a : a-lts.After-struct_known-1 a-claims a_at a-reads.Post → a-lts.Start a-claims a_at a-reads.Post
   opened_a c = c.before.before.before
 
-  abbrev left-asked_a : a-lts.After-left-good a-claims a_at a-reads.Post → a-lts.Start a-claims a_at a-reads.Post
+  abbrev left-asked_a : a-lts.After-left_good a-claims a_at a-reads.Post → a-lts.Start a-claims a_at a-reads.Post
   left-asked_a c = opened_a c.before.before.before
 
-  abbrev left-walked_a : a-lts.After-walk a-claims a_at a-reads.Post → a-lts.Start a-claims a_at a-reads.Post
+  abbrev left-walked_a : a-lts.After-walk-left a-claims a_at a-reads.Post → a-lts.Start a-claims a_at a-reads.Post
   left-walked_a c = left-asked_a c.before.before.before
 
-  abbrev over_a : a-lts.Else2 a-claims a_at a-reads.Post → a-lts.Start a-claims a_at a-reads.Post
+  abbrev over_a : a-lts.Else-stopped a-claims a_at a-reads.Post → a-lts.Start a-claims a_at a-reads.Post
   over_a c = left-walked_a c.before.before
 
-  abbrev tallied_a : a-lts.After-tally-in a-claims a_at a-reads.Post → a-lts.Else2 a-claims a_at a-reads.Post
+  abbrev tallied_a : a-lts.After-tally_in-next a-claims a_at a-reads.Post
+      → a-lts.Else-stopped a-claims a_at a-reads.Post
   tallied_a c = c.before.before.before
 
-  abbrev right-asked_a : a-lts.After-right-good a-claims a_at a-reads.Post
-      → a-lts.After-tally-in a-claims a_at a-reads.Post
+  abbrev right-asked_a : a-lts.After-right_good a-claims a_at a-reads.Post
+      → a-lts.After-tally_in-next a-claims a_at a-reads.Post
   right-asked_a c = c.before.before.before
 
   -- what the rows of the halves tell
-  left-told_a : (c : a-lts.After-pack-rows a-claims a_at a-reads.Post)
+  left-told_a : (c : a-lts.After-pack_rows-left_rows a-claims a_at a-reads.Post)
       → let s = (left-asked_a c.before.before).args in
-      Handed s.points-a.now.now s.table-a.now.now s.points-b.now.now s.table-b.now.now
-      (left_on side_a s.pair s.split) c.pack-rows.result
+      Handed s.points_a.now.now s.table_a.now.now s.points_b.now.now s.table_b.now.now
+      (left_on side_a s.pair s.split) c.pack_rows-left_rows.result
   left-told_a c =
       let l = c.before.before in
-      handed (left-pair (left-asked_a l).requires.1 l.left-good.ensures c.before.if1.false) c.pack-rows.ensures
+      handed (left-pair (left-asked_a l).requires.1 l.left_good.ensures c.before.if-not-left_good.false-raw)
+      c.pack_rows-left_rows.ensures
 
-  right-told_a : (c : a-lts.After-pack-rows2 a-claims a_at a-reads.Post)
+  right-told_a : (c : a-lts.After-pack_rows-right_rows a-claims a_at a-reads.Post)
       → let s = (over_a (tallied_a (right-asked_a c.before.before))).args in
-      Handed s.points-a.now.now s.table-a.now.now s.points-b.now.now s.table-b.now.now
-      (right_on side_a s.pair s.split) c.pack-rows2.result
+      Handed s.points_a.now.now s.table_a.now.now s.points_b.now.now s.table_b.now.now
+      (right_on side_a s.pair s.split) c.pack_rows-right_rows.result
   right-told_a c =
       let r = c.before.before in
       handed
-      (right-pair (over_a (tallied_a (right-asked_a r))).pre.1 r.right-good.ensures c.before.if3.false)
-      c.pack-rows2.ensures
+      (right-pair (over_a (tallied_a (right-asked_a r))).requires.1 r.right_good.ensures
+      c.before.if-not-right_good.false-raw)
+      c.pack_rows-right_rows.ensures
 
-  left-over_a : (c : a-lts.After-tally-in a-claims a_at a-reads.Post)
-      → let s = over_a (tallied_a c) in LeftOver s.pre.1 s.args.counted c.tally-in.result
+  left-over_a : (c : a-lts.After-tally_in-next a-claims a_at a-reads.Post)
+      → let s = over_a (tallied_a c) in LeftOver s.requires.1 s.args.counted c.tally_in-next.result
   left-over_a c =
       let e = tallied_a c in
       let w = e.before.before in
       record {
-        left = w.walk.result;
-        comes = walked_to (left-told_a w.before) _ _ w.walk.ensures;
-        goes = sym e.before.stopped.ensures ∙ e.if2.left;
-        tallied = c.tally-in.ensures;
+        left = w.walk-left.result;
+        comes = walked_to (left-told_a w.before) _ _ w.walk-left.ensures;
+        goes = sym e.before.stopped.ensures ∙ e.if-stopped.false;
+        tallied = c.tally_in-next.ensures;
       }
 
   -- ---------------- `halve_b`: the places after its fields are read, the row of the left half is asked for, that half
   -- is walked, it did not stop, the next tally is taken, and the row of the right half is asked for
-  abbrev opened_b : b-lts.After-struct-known b-claims b_at b-reads.Post → b-lts.Start b-claims b_at b-reads.Post
+  abbrev opened_b : b-lts.After-struct_known-1 b-claims b_at b-reads.Post → b-lts.Start b-claims b_at b-reads.Post
   opened_b c = c.before.before.before
 
-  abbrev left-asked_b : b-lts.After-left-good b-claims b_at b-reads.Post → b-lts.Start b-claims b_at b-reads.Post
+  abbrev left-asked_b : b-lts.After-left_good b-claims b_at b-reads.Post → b-lts.Start b-claims b_at b-reads.Post
   left-asked_b c = opened_b c.before.before.before
 
-  abbrev left-walked_b : b-lts.After-walk b-claims b_at b-reads.Post → b-lts.Start b-claims b_at b-reads.Post
+  abbrev left-walked_b : b-lts.After-walk-left b-claims b_at b-reads.Post → b-lts.Start b-claims b_at b-reads.Post
   left-walked_b c = left-asked_b c.before.before.before
 
-  abbrev over_b : b-lts.Else2 b-claims b_at b-reads.Post → b-lts.Start b-claims b_at b-reads.Post
+  abbrev over_b : b-lts.Else-stopped b-claims b_at b-reads.Post → b-lts.Start b-claims b_at b-reads.Post
   over_b c = left-walked_b c.before.before
 
-  abbrev tallied_b : b-lts.After-tally-in b-claims b_at b-reads.Post → b-lts.Else2 b-claims b_at b-reads.Post
+  abbrev tallied_b : b-lts.After-tally_in-next b-claims b_at b-reads.Post
+      → b-lts.Else-stopped b-claims b_at b-reads.Post
   tallied_b c = c.before.before.before
 
-  abbrev right-asked_b : b-lts.After-right-good b-claims b_at b-reads.Post
-      → b-lts.After-tally-in b-claims b_at b-reads.Post
+  abbrev right-asked_b : b-lts.After-right_good b-claims b_at b-reads.Post
+      → b-lts.After-tally_in-next b-claims b_at b-reads.Post
   right-asked_b c = c.before.before.before
 
   -- what the rows of the halves tell
-  left-told_b : (c : b-lts.After-pack-rows b-claims b_at b-reads.Post)
+  left-told_b : (c : b-lts.After-pack_rows-left_rows b-claims b_at b-reads.Post)
       → let s = (left-asked_b c.before.before).args in
-      Handed s.points-a.now.now s.table-a.now.now s.points-b.now.now s.table-b.now.now
-      (left_on side_b s.pair s.split) c.pack-rows.result
+      Handed s.points_a.now.now s.table_a.now.now s.points_b.now.now s.table_b.now.now
+      (left_on side_b s.pair s.split) c.pack_rows-left_rows.result
   left-told_b c =
       let l = c.before.before in
-      handed (left-pair (left-asked_b l).requires.1 l.left-good.ensures c.before.if1.false) c.pack-rows.ensures
+      handed (left-pair (left-asked_b l).requires.1 l.left_good.ensures c.before.if-not-left_good.false-raw)
+      c.pack_rows-left_rows.ensures
 
-  right-told_b : (c : b-lts.After-pack-rows2 b-claims b_at b-reads.Post)
+  right-told_b : (c : b-lts.After-pack_rows-right_rows b-claims b_at b-reads.Post)
       → let s = (over_b (tallied_b (right-asked_b c.before.before))).args in
-      Handed s.points-a.now.now s.table-a.now.now s.points-b.now.now s.table-b.now.now
-      (right_on side_b s.pair s.split) c.pack-rows2.result
+      Handed s.points_a.now.now s.table_a.now.now s.points_b.now.now s.table_b.now.now
+      (right_on side_b s.pair s.split) c.pack_rows-right_rows.result
   right-told_b c =
       let r = c.before.before in
       handed
-      (right-pair (over_b (tallied_b (right-asked_b r))).pre.1 r.right-good.ensures c.before.if3.false)
-      c.pack-rows2.ensures
+      (right-pair (over_b (tallied_b (right-asked_b r))).requires.1 r.right_good.ensures
+      c.before.if-not-right_good.false-raw)
+      c.pack_rows-right_rows.ensures
 
-  left-over_b : (c : b-lts.After-tally-in b-claims b_at b-reads.Post)
-      → let s = over_b (tallied_b c) in LeftOver s.pre.1 s.args.counted c.tally-in.result
+  left-over_b : (c : b-lts.After-tally_in-next b-claims b_at b-reads.Post)
+      → let s = over_b (tallied_b c) in LeftOver s.requires.1 s.args.counted c.tally_in-next.result
   left-over_b c =
       let e = tallied_b c in
       let w = e.before.before in
       record {
-        left = w.walk.result;
-        comes = walked_to (left-told_b w.before) _ _ w.walk.ensures;
-        goes = sym e.before.stopped.ensures ∙ e.if2.left;
-        tallied = c.tally-in.ensures;
+        left = w.walk-left.result;
+        comes = walked_to (left-told_b w.before) _ _ w.walk-left.ensures;
+        goes = sym e.before.stopped.ensures ∙ e.if-stopped.false;
+        tallied = c.tally_in-next.ensures;
       }
 
   -- ---------------- `open`: the pair is told by its rows, and they are read
   abbrev Told : Type 0
-  Told = open-lts.After-pair-at open-claims open_at open-reads.Post
+  Told = open-lts.After-pair_at-pair open-claims open_at open-reads.Post
 
   abbrev Opened : Type 0
-  Opened = open-lts.After-row-at2 open-claims open_at open-reads.Post
+  Opened = open-lts.After-row_at-row_b open-claims open_at open-reads.Post
 
   abbrev told : Opened → Told
   told c = let r = c.before.before in let b = r.before.before in b.before.before
@@ -275,133 +279,134 @@ module _ (t : ℕ) where
   asked c = c.before.before.before
 
   opens : (c : Told) → let a = (asked c).args in
-      Opens a.points-a.now.now a.table-a.now.now a.points-b.now.now a.table-b.now.now
-      c.pair-at.result
-  opens c = subst (Opens _ _ _ _) (sym c.pair-at.ensures) (asked c).requires.1
+      Opens a.points_a.now.now a.table_a.now.now a.points_b.now.now a.table_b.now.now
+      c.pair_at-pair.result
+  opens c = subst (Opens _ _ _ _) (sym c.pair_at-pair.ensures) (asked c).requires.1
 
   read_a : (c : Opened) → let k = told c in
-      Read (asked k).args.points-a.now.now c.before.before.row_at.result k.pair-at.result.a
-  read_a c = read_of (opens (told c)).pair-stands.of-a c.before.before.row_at.ensures
+      Read (asked k).args.points_a.now.now c.before.before.row_at-row_a.result k.pair_at-pair.result.a
+  read_a c = read_of (opens (told c)).pair-stands.of-a c.before.before.row_at-row_a.ensures
 
   read-b : (c : Opened) → let k = told c in
-      Read (asked k).args.points-b.now.now c.row-at2.result k.pair-at.result.b
-  read-b c = read_of (opens (told c)).pair-stands.of-b c.row-at2.ensures
+      Read (asked k).args.points_b.now.now c.row_at-row_b.result k.pair_at-pair.result.b
+  read-b c = read_of (opens (told c)).pair-stands.of-b c.row_at-row_b.ensures
 
   -- what the visit did
   abbrev visited : Told → Visit Nothing Pair
   visited c =
       let a = (asked c).args in
-      meet_visit a.points-a.now.now a.table-a.now.now a.points-b.now.now a.table-b.now.now
-      c.pair-at.result
+      meet_visit a.points_a.now.now a.table_a.now.now a.points_b.now.now a.table_b.now.now
+      c.pair_at-pair.result
 
   abbrev larger : Told → Step
   larger c =
       let a = (asked c).args in
-      let n = c.pair-at.result in
-      opened (row_at a.table-a.now.now n.a.row) (row_at a.table-b.now.now n.b.row) n
+      let n = c.pair_at-pair.result in
+      opened (row_at a.table_a.now.now n.a.row) (row_at a.table_b.now.now n.b.row) n
 
-  does : (c : Told) → Does c.pair-at.result (larger c) HALVES (visited c)
+  does : (c : Told) → Does c.pair_at-pair.result (larger c) HALVES (visited c)
   does c =
       let o = opens c in
-      visit-does _ _ _ _ c.pair-at.result o.pair-stands.of-a o.pair-stands.of-b (sym o.halves)
+      visit-does _ _ _ _ c.pair_at-pair.result o.pair-stands.of-a o.pair-stands.of-b (sym o.halves)
 
-  halves : (c : open-lts.After-open-larger open-claims open_at open-reads.Post) {o : Step}
-      → c.open-larger.result ≡ o → let k = told c.before in Halves k.pair-at.result o (visited k)
+  halves : (c : open-lts.After-open_larger open-claims open_at open-reads.Post) {o : Step}
+      → c.open_larger.result ≡ o → let k = told c.before in Halves k.pair_at-pair.result o (visited k)
   halves c e =
       let k = told c.before in
-      let n = k.pair-at.result in
-      let is : larger k ≡ c.open-larger.result =
-      sym (c.open-larger.ensures
-      ∙ (λ i. opened (c.before.before.before.row_at.ensures i) (c.before.row-at2.ensures i) n))
+      let n = k.pair_at-pair.result in
+      let is : larger k ≡ c.open_larger.result =
+      sym (c.open_larger.ensures
+      ∙ (λ i. opened (c.before.before.before.row_at-row_a.ensures i) (c.before.row_at-row_b.ensures i) n))
       in
       subst (λ (o : Step). Halves n o (visited k)) (is ∙ e) ((does k).halves refl)
 
   -- the pair is handed on by itself
-  below : (c : Told) → 3 * ahead c.pair-at.result < t
-  below c = subst (λ (n : Pair). 3 * ahead n < t) (sym c.pair-at.ensures) (let e = (asked c).requires.0 in omega arith)
+  below : (c : Told) → 3 * ahead c.pair_at-pair.result < t
+  below c = subst (λ (n : Pair). 3 * ahead n < t) (sym c.pair_at-pair.ensures)
+      (let e = (asked c).requires.0 in omega arith)
 
-  open-larger-requires : open-lts.Need-open-larger-requires open-claims open_at open-reads.Post
+  open-larger-requires : open-lts.Need-open_larger-requires open-claims open_at open-reads.Post
   open-larger-requires c κs =
       let k = told c in ((has_split (read_a c), has_split (read-b c)), (does k).no-leaves refl)
 
-  halve-a-requires : open-lts.Need-halve-a-requires open-claims open_at open-reads.Post
+  halve-a-requires : open-lts.Need-halve_a-requires open-claims open_at open-reads.Post
   halve-a-requires c κs =
-      let l = c.before.before.before in
+      let l = c.before in
       let k = told l.before in
-      let h = halves l c.before.split.given.1 in
+      let h = halves l c.in-HalveA.is in
       (below k, record { pair-stands = (opens k).pair-stands; inner = h.1; visit = h.0 })
 
-  halve-b-requires : open-lts.Need-halve-b-requires open-claims open_at open-reads.Post
+  halve-b-requires : open-lts.Need-halve_b-requires open-claims open_at open-reads.Post
   halve-b-requires c κs =
-      let l = c.before.before.before in
+      let l = c.before in
       let k = told l.before in
-      let h = halves l c.before.split2.given.1 in
+      let h = halves l c.in-HalveB.is in
       (below k, record { pair-stands = (opens k).pair-stands; inner = h.1; visit = h.0 })
 
   comes : (c : Told) (y : Tally) (r : ℕ) → let a = (asked c).args in
       let on =
-      WalksOn a.points-a.now.now a.table-a.now.now a.points-b.now.now a.table-b.now.now
-      in on c.pair-at.result y r → on (pair_in a.table-a.now.now a.table-b.now.now a.rows) y r
+      WalksOn a.points_a.now.now a.table_a.now.now a.points_b.now.now a.table_b.now.now
+      in on c.pair_at-pair.result y r → on (pair_in a.table_a.now.now a.table_b.now.now a.rows) y r
   comes c y r w =
       let a = (asked c).args in
       subst
-      (λ (n : Pair). WalksOn a.points-a.now.now a.table-a.now.now
-      a.points-b.now.now a.table-b.now.now n y r)
-      c.pair-at.ensures w
+      (λ (n : Pair). WalksOn a.points_a.now.now a.table_a.now.now
+      a.points_b.now.now a.table_b.now.now n y r)
+      c.pair_at-pair.ensures w
 
   -- ---------------- `walk`: its places up to the visit, and where they started
   abbrev Start : Type 0
   Start = walk-lts.Start walk-claims walk_at walk-reads.Post
 
   abbrev Counted : Type 0
-  Counted = walk-lts.After-counted walk-claims walk_at walk-reads.Post
+  Counted = walk-lts.In-Left walk-claims walk_at walk-reads.Post
 
   abbrev Seen : Type 0
-  Seen = walk-lts.After-visit2 walk-claims walk_at walk-reads.Post
+  Seen = walk-lts.After-visit-does walk-claims walk_at walk-reads.Post
 
   abbrev start : Counted → Start
-  start c = c.before.before.before
+  start c = c.before.before
 
   abbrev origin : Seen → Start
-  origin c = start c.before.before
+  origin c = start c.before
 
   -- a visit is made: it takes the tally and gives the next one ..
-  made : (c : Seen) → next (origin c).args.tally ≡ Left c.before.before.counted.given.0.0
-  made c = let k = c.before.before in sym k.before.before.visit.ensures ∙ k.counted.given.1
+  made : (c : Seen) → next (origin c).args.tally ≡ Left c.before.in-Left.counted
+  made c = sym c.before.in-Left.ensures
 
   -- .. and does what a visit of the pair does
   abbrev pair : Start → Pair
-  pair s = let n = s.args in pair_in n.table-a.now.now n.table-b.now.now n.rows
+  pair s = let n = s.args in pair_in n.table_a.now.now n.table_b.now.now n.rows
 
   seen : (c : Seen) → let s = origin c in
       let n = s.args in
-      let r = row_at n.table-a.now.now (pair s).a.row in
-      let q = row_at n.table-b.now.now (pair s).b.row in
-      Does (pair s) (opened r q (pair s)) c.visit2.result
-      (meet_visit n.points-a.now.now n.table-a.now.now n.points-b.now.now n.table-b.now.now (pair s))
+      let r = row_at n.table_a.now.now (pair s).a.row in
+      let q = row_at n.table_b.now.now (pair s).b.row in
+      Does (pair s) (opened r q (pair s)) c.visit-does.result
+      (meet_visit n.points_a.now.now n.table_a.now.now n.points_b.now.now n.table_b.now.now (pair s))
   seen c =
-      let h = (origin c).requires.1 in visit-does _ _ _ _ (pair (origin c)) h.of-a h.of-b c.visit2.ensures
+      let h = (origin c).requires.1 in visit-does _ _ _ _ (pair (origin c)) h.of-a h.of-b c.visit-does.ensures
 
-  returns : walk-lts.Need-returns walk-claims walk_at walk-reads.Post
+  returns : walk-lts.Need-returns-in_default walk-claims walk_at walk-reads.Post
   returns c f h =
-      let k = c.before.before in
+      let k = c.before in
       let s = k.before.before in
-      let e : next s.args.tally ≡ Spent = cc in
+      let e : next s.args.tally ≡ Spent = sym k.in_default.ensures in
       none_left (level_of s.requires.1 s.args.tally f h) e c.pack.ensures
 
-  returns-2 : walk-lts.Need-returns-2 walk-claims walk_at walk-reads.Post
+  returns-2 : walk-lts.Need-returns-then-does-eq-FINISHES walk-claims walk_at walk-reads.Post
   returns-2 c f h =
       let w = c.before.before in
       let s = origin w in
-      yes-here (level_of s.pre.1 s.args.tally f h) (made w) c.pack2.ensures
-      ((seen w).finishes c.before.if1.true)
+      yes-here (level_of s.requires.1 s.args.tally f h) (made w) c.pack-then-does-eq-FINISHES.ensures
+      ((seen w).finishes c.before.if-does-eq-FINISHES.true)
 
-  returns-3 : walk-lts.Need-returns-3 walk-claims walk_at walk-reads.Post
+  returns-3 : walk-lts.Need-returns-then-does-eq-PASSES walk-claims walk_at walk-reads.Post
   returns-3 c f h =
       let w = c.before.before.before in
       let s = origin w in
-      over-here (level_of s.pre.1 s.args.tally f h) (made w) false c.pack3.ensures refl
-      ((seen w).passes c.before.if2.true)
+      over-here (level_of s.requires.1 s.args.tally f h) (made w) false c.pack-then-does-eq-PASSES.ensures refl
+      ((seen w).passes c.before.if-does-eq-PASSES.true)
 
   open-requires : walk-lts.Need-open-requires walk-claims walk_at walk-reads.Post
   open-requires c κs =
@@ -409,101 +414,107 @@ module _ (t : ℕ) where
       let s = origin w in
       let n = s.args in
       let small =
-      else-halves n.points-a.now.now (row_at n.table-a.now.now (pair s).a.row)
-      n.points-b.now.now (row_at n.table-b.now.now (pair s).b.row) (pair s)
+      else-halves n.points_a.now.now (row_at n.table_a.now.now (pair s).a.row)
+      n.points_b.now.now (row_at n.table_b.now.now (pair s).b.row) (pair s)
       in
-      let e = s.pre.0 in (
+      let e = s.requires.0 in (
         omega arith,
         record {
-          pair-stands = s.pre.1;
-          halves = omega (arith, small, w.visit2.ensures, c.before.if1.false, c.if2.false);
+          pair-stands = s.requires.1;
+          halves =
+              let not-yes = c.before.if-does-eq-FINISHES.false in
+              omega (arith, small, w.visit-does.ensures, not-yes, c.if-does-eq-PASSES.false);
         },
       )
 
 -- ---------------- the proof: of `halve_a` and `halve_b` in the order of the code, then of `open` and `walk`
-pub +halve-a-halve-b-open-walk-spec : {M : Type 1} → statement M
-+halve-a-halve-b-open-walk-spec =
+pub +halve_a_halve_b_open_walk_spec : {M : Type 1} → statement M
++halve_a_halve_b_open_walk_spec =
     close μ-a μ-b μ-open μ-walk
     (λ t. a-lts.spec (a-claims t) (a_at t) a-reads.Post
     -- the row of the left half: its number, what it is asked, where it is bad, and where it is walked from
     (λ c. let k = row_small (left-half (opened_a t c).requires.1) in omega arith)
-    (λ c κs. let o = (opened_a t c.before.before).pre.1 in (left-half o, left-start o))
-    (λ c κs. row_small (left-half (left-asked_a t c.before).pre.1))
+    (λ c κs. let o = (opened_a t c.before.before).requires.1 in (left-half o, left-start o))
+    (λ c κs. row_small (left-half (left-asked_a t c.before).requires.1))
     (λ c. let l = c.before.before in
-    left-bad (left-asked_a t l).requires.1 l.left-good.ensures c.before.if1.true c.bad-row-due.ensures)
-    (λ c κs. let o = (left-asked_a t c.before).pre.1 in
+    left-bad (left-asked_a t l).requires.1 l.left_good.ensures c.before.if-not-left_good.true-raw
+    c.bad_row_due.ensures)
+    (λ c κs. let o = (left-asked_a t c.before).requires.1 in
     (row_small (left-half o), row_small o.pair-stands.of-b.stands))
-    (λ c κs. let s = (left-asked_a t c.before.before).pre in
+    (λ c κs. let s = (left-asked_a t c.before.before).requires in
     falls-to (left-told_a t c) (left-fewer s.1) s.0)
     -- the left half is walked, and stops
     (λ c κs. search rules)
     (λ c. let w = c.before.before in
-    let s = left-walked_a t w in left-stopped s.pre.1 {counted = s.args.counted} w.walk.result
-    (walked_to (left-told_a t w.before) _ _ w.walk.ensures) c.before.stopped.ensures c.if2.true)
+    let s = left-walked_a t w in left-stopped s.requires.1 {counted = s.args.counted} w.walk-left.result
+    (walked_to (left-told_a t w.before) _ _ w.walk-left.ensures) c.before.stopped.ensures c.if-stopped.true)
     -- it is over: the row of the right half likewise, and what that half comes to
-    (λ c. let i = (over_a t c.before).pre.1.inner in omega arith)
-    (λ c. let k = row_small (right-half (over_a t c.before).pre.1) in omega arith)
-    (λ c. let k = row_small (right-half (over_a t c.before.before).pre.1) in omega arith)
+    (λ c. let i = (over_a t c.before).requires.1.inner in omega arith)
+    (λ c. let k = row_small (right-half (over_a t c.before).requires.1) in omega arith)
+    (λ c. let k = row_small (right-half (over_a t c.before.before).requires.1) in omega arith)
     (λ c κs. search rules)
     (λ c κs. let e = tallied_a t c.before.before in
     let l = e.before.before.before.before in
-    let o = (over_a t e).pre.1 in (right-half o, right-ends o l.before.left-good.ensures l.if1.left))
-    (λ c κs. row_small (right-half (over_a t (tallied_a t (right-asked_a t c.before))).pre.1))
+    let o = (over_a t e).requires.1 in
+    (right-half o, right-ends o l.before.left_good.ensures l.if-not-left_good.false-raw))
+    (λ c κs. row_small (right-half (over_a t (tallied_a t (right-asked_a t c.before))).requires.1))
     (λ c. let y = right-asked_a t c.before.before in
-    right-bad (over_a t (tallied_a t y)).pre.1 (left-over_a t y) c.before.before.right-good.ensures
-    c.before.if3.true c.bad-row-due2.ensures)
-    (λ c κs. let o = (over_a t (tallied_a t (right-asked_a t c.before))).pre.1 in
+    right-bad (over_a t (tallied_a t y)).requires.1 (left-over_a t y) c.before.before.right_good.ensures
+    c.before.if-not-right_good.true-raw c.bad_row_due-then-not-right_good.ensures)
+    (λ c κs. let o = (over_a t (tallied_a t (right-asked_a t c.before))).requires.1 in
     (row_small (right-half o), row_small o.pair-stands.of-b.stands))
-    (λ c κs. let s = (over_a t (tallied_a t (right-asked_a t c.before.before))).pre in
+    (λ c κs. let s = (over_a t (tallied_a t (right-asked_a t c.before.before))).requires in
     falls-to (right-told_a t c) (right-fewer s.1) s.0)
     (λ c. let y = right-asked_a t c.before.before.before in
-    right-comes (over_a t (tallied_a t y)).pre.1 (left-over_a t y) c.walk2.result
-    (walked_to (right-told_a t c.before) _ _ c.walk2.ensures)))
+    right-comes (over_a t (tallied_a t y)).requires.1 (left-over_a t y) c.walk.result
+    (walked_to (right-told_a t c.before) _ _ c.walk.ensures)))
     (λ t. b-lts.spec (b-claims t) (b_at t) b-reads.Post
     -- the row of the left half: its number, what it is asked, where it is bad, and where it is walked from
     (λ c. let k = row_small (left-half (opened_b t c).requires.1) in omega arith)
-    (λ c κs. let o = (opened_b t c.before.before).pre.1 in (left-half o, left-start o))
-    (λ c κs. row_small (left-half (left-asked_b t c.before).pre.1))
+    (λ c κs. let o = (opened_b t c.before.before).requires.1 in (left-half o, left-start o))
+    (λ c κs. row_small (left-half (left-asked_b t c.before).requires.1))
     (λ c. let l = c.before.before in
-    left-bad (left-asked_b t l).requires.1 l.left-good.ensures c.before.if1.true c.bad-second-due.ensures)
-    (λ c κs. let o = (left-asked_b t c.before).pre.1 in
+    left-bad (left-asked_b t l).requires.1 l.left_good.ensures c.before.if-not-left_good.true-raw
+    c.bad_second_due.ensures)
+    (λ c κs. let o = (left-asked_b t c.before).requires.1 in
     (row_small o.pair-stands.of-a.stands, row_small (left-half o)))
-    (λ c κs. let s = (left-asked_b t c.before.before).pre in
+    (λ c κs. let s = (left-asked_b t c.before.before).requires in
     falls-to (left-told_b t c) (left-fewer s.1) s.0)
     -- the left half is walked, and stops
     (λ c κs. search rules)
     (λ c. let w = c.before.before in
-    let s = left-walked_b t w in left-stopped s.pre.1 {counted = s.args.counted} w.walk.result
-    (walked_to (left-told_b t w.before) _ _ w.walk.ensures) c.before.stopped.ensures c.if2.true)
+    let s = left-walked_b t w in left-stopped s.requires.1 {counted = s.args.counted} w.walk-left.result
+    (walked_to (left-told_b t w.before) _ _ w.walk-left.ensures) c.before.stopped.ensures c.if-stopped.true)
     -- it is over: the row of the right half likewise, and what that half comes to
-    (λ c. let i = (over_b t c.before).pre.1.inner in omega arith)
-    (λ c. let k = row_small (right-half (over_b t c.before).pre.1) in omega arith)
-    (λ c. let k = row_small (right-half (over_b t c.before.before).pre.1) in omega arith)
+    (λ c. let i = (over_b t c.before).requires.1.inner in omega arith)
+    (λ c. let k = row_small (right-half (over_b t c.before).requires.1) in omega arith)
+    (λ c. let k = row_small (right-half (over_b t c.before.before).requires.1) in omega arith)
     (λ c κs. search rules)
     (λ c κs. let e = tallied_b t c.before.before in
     let l = e.before.before.before.before in
-    let o = (over_b t e).pre.1 in (right-half o, right-ends o l.before.left-good.ensures l.if1.left))
-    (λ c κs. row_small (right-half (over_b t (tallied_b t (right-asked_b t c.before))).pre.1))
+    let o = (over_b t e).requires.1 in
+    (right-half o, right-ends o l.before.left_good.ensures l.if-not-left_good.false-raw))
+    (λ c κs. row_small (right-half (over_b t (tallied_b t (right-asked_b t c.before))).requires.1))
     (λ c. let y = right-asked_b t c.before.before in
-    right-bad (over_b t (tallied_b t y)).pre.1 (left-over_b t y) c.before.before.right-good.ensures
-    c.before.if3.true c.bad-second-due2.ensures)
-    (λ c κs. let o = (over_b t (tallied_b t (right-asked_b t c.before))).pre.1 in
+    right-bad (over_b t (tallied_b t y)).requires.1 (left-over_b t y) c.before.before.right_good.ensures
+    c.before.if-not-right_good.true-raw c.bad_second_due-then-not-right_good.ensures)
+    (λ c κs. let o = (over_b t (tallied_b t (right-asked_b t c.before))).requires.1 in
     (row_small o.pair-stands.of-a.stands, row_small (right-half o)))
-    (λ c κs. let s = (over_b t (tallied_b t (right-asked_b t c.before.before))).pre in
+    (λ c κs. let s = (over_b t (tallied_b t (right-asked_b t c.before.before))).requires in
     falls-to (right-told_b t c) (right-fewer s.1) s.0)
     (λ c. let y = right-asked_b t c.before.before.before in
-    right-comes (over_b t (tallied_b t y)).pre.1 (left-over_b t y) c.walk2.result
-    (walked_to (right-told_b t c.before) _ _ c.walk2.ensures)))
+    right-comes (over_b t (tallied_b t y)).requires.1 (left-over_b t y) c.walk.result
+    (walked_to (right-told_b t c.before) _ _ c.walk.ensures)))
     (λ t. open-lts.spec (open-claims t) (open_at t) open-reads.Post
     (λ c κs. let p = c.before.before.requires.1.pair-stands in (tells-node p.of-a, tells-node p.of-b))
     (λ c κs. (tells-node (opens t c.before.before.before).pair-stands.of-a).in_table)
     (λ c κs. let b = c.before.before.before in
     (tells-node (opens t b.before.before).pair-stands.of-b).in_table)
     (open-larger-requires t) (λ c. search rules) (halve-a-requires t) (λ c. search rules) (halve-b-requires t)
-    (λ c. comes t (told t c.before.before.before.before.before) _ _ c.halve-a.ensures)
-    (λ c. comes t (told t c.before.before.before.before.before) _ _ c.halve-b.ensures))
+    (λ c. comes t (told t c.before.before.before) _ _ c.halve_a.ensures)
+    (λ c. comes t (told t c.before.before.before) _ _ c.halve_b.ensures))
     (λ t. walk-lts.spec (walk-claims t) (walk_at t) walk-reads.Post
     (λ c κs. search rules) (λ c. search rules) (λ c. search rules) (λ c κs. search rules) (returns t)
-    (λ c κs. (start t c.before).pre.1) (λ c κs. search rules) (returns-2 t) (λ c κs. search rules) (returns-3 t)
+    (λ c κs. (start t c).requires.1) (λ c κs. search rules) (returns-2 t) (λ c κs. search rules) (returns-3 t)
     (open-requires t)
     (λ c. let w = c.before.before.before in c.open.ensures (origin t w).args.tally (made t w)))

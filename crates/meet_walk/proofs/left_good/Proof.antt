@@ -8,7 +8,7 @@ use Rattle.meet_walk.proofs.left_good.Tie as tie
 returns : tie.Need-returns
 returns c =
     let a = c.before.before.args in
-    c.good-from.ensures ∙ (λ i. good a.points.now (c.before.row_at.ensures i) a.first a.last)
+    c.good_from.ensures ∙ (λ i. good a.points.now (c.before.row_at.ensures i) a.first a.last)
 
-pub left-good-spec : {M : Type 1} → statement M
-left-good-spec = tie.close (tie.spec (λ c κs. search rules) (λ c κs. search rules) returns)
+pub left_good_spec : {M : Type 1} → statement M
+left_good_spec = tie.close (tie.spec (λ c κs. search rules) (λ c κs. search rules) returns)

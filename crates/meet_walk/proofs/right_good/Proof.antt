@@ -8,7 +8,7 @@ use Rattle.meet_walk.proofs.right_good.Tie as tie
 returns : tie.Need-returns
 returns c =
     let a = c.before.before.args in
-    c.good-between.ensures ∙ (λ i. good a.points.now (c.before.row_at.ensures i) a.first a.last)
+    c.good_between.ensures ∙ (λ i. good a.points.now (c.before.row_at.ensures i) a.first a.last)
 
-pub right-good-spec : {M : Type 1} → statement M
-right-good-spec = tie.close (tie.spec (λ c κs. search rules) (λ c κs. search rules) returns)
+pub right_good_spec : {M : Type 1} → statement M
+right_good_spec = tie.close (tie.spec (λ c κs. search rules) (λ c κs. search rules) returns)
