@@ -1,10 +1,12 @@
 # The proved library as an archive and a shared object, for x86-64 Linux. Elsewhere, CC is a compiler for it.
 #
 #   make                    target/staticlib/libkneukelboom_c.a, and in target/lib the shared object and kneukelboom.pc
+#   make program            target/bin/kneukelboom, the question program
 #   make install PREFIX=..  header, archive, shared object and kneukelboom.pc; `uninstall` takes them away again. The
 #                           loader learns of a shared object in /usr/local/lib by `ldconfig`
 #
-# `rt` proves the library before it writes the archive; an archive that is older than a source is made again.
+# `rt` proves the library before it writes the archive, and the program too; one that is older than a source is made
+# again.
 PREFIX = /usr/local
 LIBDIR = $(PREFIX)/lib
 INCLUDEDIR = $(PREFIX)/include
@@ -12,16 +14,23 @@ DESTDIR =
 
 HEADER = include/kneukelboom.h
 ARCHIVE = target/staticlib/libkneukelboom_c.a
+PROGRAM = target/bin/kneukelboom
 OUT = target/lib
 VERSION := $(shell sed -n 's/^.define KNEUKELBOOM_VERSION //p' $(HEADER))
 SONAME = libkneukelboom.so.$(VERSION)
-SOURCES := $(shell find crates -name '*.rt' -o -name '*.antt') crates.txt
+SOURCES := $(shell find crates -name out -prune -o -name '*.rt' -print -o -name '*.antt' -print) crates.txt
 
 lib: $(ARCHIVE) $(OUT)/libkneukelboom.so $(OUT)/kneukelboom.pc
 
+program: $(PROGRAM)
+
 $(ARCHIVE): $(SOURCES)
-	rt staticlib kneukelboom_c
-	@touch $@
+	rt lib kneukelboom_c
+	@mkdir -p $(@D) && cp crates/kneukelboom_c/out/$(@F) $@
+
+$(PROGRAM): $(SOURCES)
+	rt run kneukelboom </dev/null
+	@mkdir -p $(@D) && cp crates/kneukelboom/out/$(@F) $@
 
 # what the archive exports, which is the seven calls, and no other library
 $(OUT)/$(SONAME): $(ARCHIVE)
@@ -56,5 +65,5 @@ uninstall:
 	rm -f $(DESTDIR)$(INCLUDEDIR)/kneukelboom.h $(DESTDIR)$(LIBDIR)/libkneukelboom.a $(DESTDIR)$(LIBDIR)/$(SONAME) \
 	    $(DESTDIR)$(LIBDIR)/libkneukelboom.so $(DESTDIR)$(LIBDIR)/pkgconfig/kneukelboom.pc
 
-.PHONY: lib install uninstall always
+.PHONY: lib program install uninstall always
 .DELETE_ON_ERROR:

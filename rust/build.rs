@@ -1,8 +1,8 @@
 //! Finds the proved archive, `libkneukelboom_c.a`, and has it linked.
 //!
 //! It stands in `../target/staticlib`. Where it is missing, or not newer than every source that it is made of,
-//! `rt staticlib kneukelboom_c` is run, which proves the library and writes the archive anew. Where that cannot be, the
-//! build ends: an old archive is never linked. With KNEUKELBOOM_LIB_DIR the archive of that folder is taken as it is;
+//! `rt lib kneukelboom_c` is run, which proves the library and writes the archive anew. Where that cannot be, the build
+//! ends: an old archive is never linked. With KNEUKELBOOM_LIB_DIR the archive of that folder is taken as it is;
 //! the version in its symbols keeps one of another interface from linking.
 
 use std::path::{Path, PathBuf};
@@ -11,7 +11,9 @@ use std::time::SystemTime;
 use std::{env, fs, io};
 
 const ARCHIVE: &str = "libkneukelboom_c.a";
-const PROVE: [&str; 2] = ["staticlib", "kneukelboom_c"];
+const PROVE: [&str; 2] = ["lib", "kneukelboom_c"];
+/// Where `rt` leaves what it made.
+const LEFT: &str = "crates/kneukelboom_c/out";
 
 fn main() {
     println!("cargo:rerun-if-env-changed=KNEUKELBOOM_LIB_DIR");
@@ -62,10 +64,18 @@ pub fn made(root: &Path, rt: &str) -> Result<PathBuf, String> {
     };
     let command = format!("`{rt} {}` in {}", PROVE.join(" "), root.display());
     match Command::new(rt).args(PROVE).current_dir(root).status() {
-        Ok(status) if status.success() && archive.exists() => Ok(archive),
+        Ok(status) if status.success() && kept(&root.join(LEFT).join(ARCHIVE), &archive) => {
+            Ok(archive)
+        }
         Ok(_) => Err(format!("{why}. {command} did not make it.")),
         Err(error) => Err(format!("{why}. {command} could not be run: {error}.")),
     }
+}
+
+/// Keeps what was made beside what else is built.
+fn kept(made: &Path, archive: &Path) -> bool {
+    let folder = archive.parent().expect("an archive stands in a folder");
+    fs::create_dir_all(folder).is_ok() && fs::copy(made, archive).is_ok()
 }
 
 /// Why the archive has to be made, if it has to be.
@@ -85,7 +95,7 @@ fn stale(root: &Path, archive: &Path) -> Result<Option<String>, String> {
     Ok((made <= changed).then_some(older))
 }
 
-/// When the last change of a source was, and of which.
+/// When the last change of a source was, and of which. What `rt` makes stands in folders `out`.
 fn newest_source(root: &Path) -> io::Result<(SystemTime, PathBuf)> {
     let list = root.join("crates.txt");
     let mut newest = (fs::metadata(&list)?.modified()?, list);
@@ -94,7 +104,9 @@ fn newest_source(root: &Path) -> io::Result<(SystemTime, PathBuf)> {
         for entry in fs::read_dir(folder)? {
             let (entry, path) = entry.map(|entry| (entry.file_type(), entry.path()))?;
             if entry?.is_dir() {
-                folders.push(path);
+                if !path.ends_with("out") {
+                    folders.push(path);
+                }
             } else if path
                 .extension()
                 .is_some_and(|of| of == "rt" || of == "antt")
