@@ -2,7 +2,6 @@
 use mathlib.Core.Path.{sym, ◌∙◌, ap}
 use mathlib.Core.Bool.{true, false}
 use native.Mathlib.Omega.{arith}
-use borrow.Author.Tests.{not-true, not-false}
 use Rattle.integers.specs.Order.{T_true}
 use Rattle.rules.specs.declared.Line.TheVariants.{LineA}
 use Rattle.rules.specs.Sheet.{segments_of}
@@ -18,16 +17,16 @@ use borrow.Author.Rules.{rules}
 use Rattle.in_walk.proofs.ask.Statement.{statement}
 use Rattle.in_walk.proofs.ask.Tie as tie
 
-returns : tie.Need-returns
+returns : tie.Need-returns-then-not-ends_on_sheet
 returns c =
     let k = c.before.before in
     let s = k.before.before in
     let a = s.args in
     let ps = a.points.now.now in
-    let off = ends-off ps _ 0 (segments_of ps) (sym k.ends-on-sheet.ensures ∙ not-true _ c.before.if1.true) in
+    let off = ends-off ps _ 0 (segments_of ps) (sym k.ends_on_sheet.ensures ∙ c.before.if-not-ends_on_sheet.true) in
     let t = a.table.now.now in
     let bad = row-bad ps t a.z (root ps) off in
-    ap (walked_in false true LineA LineA a.allowance) c.bad-row-due.ensures
+    ap (walked_in false true LineA LineA a.allowance) c.bad_row_due.ensures
     ∙ reads-bad-due false true LineA LineA (in_visit ps t a.z) (root ps) false (fresh a.allowance) (segments_of ps)
     (omega (arith, s.requires.0.some-points)) 0 (omega arith) bad
 
@@ -35,11 +34,11 @@ walk-requires : tie.Need-walk-requires
 walk-requires c κs =
     let e = c.before.before in
     let p = e.before.before.before.requires in
-    let on = T_true (sym e.before.ends-on-sheet.ensures ∙ not-false _ e.if1.false) in
+    let on = T_true (sym e.before.ends_on_sheet.ensures ∙ e.if-not-ends_on_sheet.false) in
     (root_stands p.0, root_ends on, stored_on p.1)
 
 -- the point's numbers are handed on as they are
-returns-2 : tie.Need-returns-2
+returns-2 : tie.Need-returns
 returns-2 c =
     let e = c.before.before.before in
     let s = e.before.before.before in
@@ -49,7 +48,7 @@ returns-2 c =
     let z = point-stored s.requires.1 in
     rw z at (c.walk.ensures f (omega arith))
 
-pub ask-spec : {M : Type 1} → statement M
-ask-spec =
+pub ask_spec : {M : Type 1} → statement M
+ask_spec =
     tie.close
     (tie.spec (λ c κs. search rules) (λ c κs. search rules) returns (λ c. search rules) walk-requires returns-2)
