@@ -14,17 +14,17 @@ came : (s : tie.Start) →
     (to_z w64 (of_z w64 s.args.x) ≡ s.args.x) × (to_z w64 (of_z w64 s.args.y) ≡ s.args.y)
 came s = (search rules, search rules)
 
-returns : tie.Need-returns
+returns : tie.Need-returns-then-count-lt-ROOM
 returns c =
     let s = c.before in
     let x = (came s).0 in
     let y = (came s).1 in
     rw (x, y)
-    (point-stored s.args.held s.args.points.now s.requires s.args.x s.args.y c.if1.true)
+    (point-stored s.args.held s.args.points.now s.requires s.args.x s.args.y c.if-count-lt-ROOM.true)
 
-pub add-point-spec : {M : Type 1} → statement M
-add-point-spec =
+pub add_point_spec : {M : Type 1} → statement M
+add_point_spec =
     tie.close (tie.spec
     (λ c. search rules) (λ c. search rules) (λ c. search rules) (λ c. search rules) (λ c. search rules)
     (λ c. search rules) (λ c. simp length-set (omega arith)) (λ c. search rules) (λ c. search rules) returns
-    (λ c. let s = c.before in point-past _ _ s.requires s.args.x s.args.y c.if1.false))
+    (λ c. let s = c.before in point-past _ _ s.requires s.args.x s.args.y c.if-count-lt-ROOM.false))

@@ -16,8 +16,8 @@ said : {x y : Speech} {d e : List ℕ} {at i : ℕ} (n : ℕ) → x ≡ y → Pu
     Put d at (said_bytes (heard x) n) e i
 said n = put-case (λ (speech : Speech). said_bytes (heard speech) n)
 
-pub print-outcome-spec : {M : Type 1} → statement M
-print-outcome-spec =
+pub print_outcome_spec : {M : Type 1} → statement M
+print_outcome_spec =
     tie.close (tie.spec
     (λ c. search rules) (λ c. search rules) (λ c κs. search rules)
     (λ c. search (said, put-none)) (λ c. search rules) (λ c. search said))

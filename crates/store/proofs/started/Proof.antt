@@ -11,8 +11,8 @@ use Rattle.store.proofs.started.Tie as tie
 by : (s : State) {r : State} {l known : Line} → l ≡ known → r ≡ started s known → r ≡ started s l
 by s e f = rw e f
 
-pub started-spec : {M : Type 1} → statement M
-started-spec =
+pub started_spec : {M : Type 1} → statement M
+started_spec =
     tie.close (tie.spec
     (λ c. search rules) (λ c κs. search rules) (λ c. search rules) (λ c κs. search rules) (λ c. search rules)
     (λ c κs. search rules) (λ c. search by) (λ c. search by) (λ c. search by))
