@@ -40,8 +40,8 @@ returns c l m =
     let reach = ap (λ (z : ℤ). pos (nat_abs z)) (squared s) ∙ pos-nat_abs (a.d *ℤ a.d) (yes_non_neg (nn-sq a.d)) in
     rw (point-stored s.requires.1) at (c.walk.ensures l m f a.d reach (omega arith))
 
-pub ask-spec : {M : Type 1} → statement M
-ask-spec =
+pub ask_spec : {M : Type 1} → statement M
+ask_spec =
     tie.close (tie.spec
     (λ c. search rules) (λ c. fits-of w64 (square-abs (stored-abs c.requires.0.2 tt)) tt)
     (λ c. nat-cast {w = w64} {w' = w64} (fits-of w64 (square-abs c.requires.0.2) tt) tt (squared c)
