@@ -65,8 +65,8 @@ module _ (ps : List ℤ) (first last : ℕ) (order : first < last) (room : 2 * l
       ∙ sym (measured-part ps first last (2 * last + 2 - 2 * first) (omega arith) (omega arith) s no_split)
 
   -- its split
-  pub run-split : first + split_of (run_of ps first last) 0 (segments_of (run_of ps first last)) ≡ split_of ps first
-  last
+  pub run-split : first + split_of (run_of ps first last) 0 (segments_of (run_of ps first last))
+      ≡ split_of ps first last
   run-split =
       ap (λ (n : ℕ). first + split_of (run_of ps first last) 0 n) run-segments
       ∙ sym (split-part ps first last (2 * last + 2 - 2 * first) (omega arith) (omega arith))

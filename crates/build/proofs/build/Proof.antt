@@ -1,13 +1,11 @@
 -- `build`: refused, or the rows of the root.
-use mathlib.Core.Path.{◌≡◌, refl, sym, ap, ◌∙◌}
+use mathlib.Core.Path.{◌≡◌, refl, sym}
 use mathlib.Core.List.{List}
 use mathlib.Core.Option.{none}
 use native.Mathlib.Nat.{sub-zero}
 use native.Mathlib.Omega.{arith}
 use lib.IntN.{ℤ}
-use Rattle.rules.specs.declared.Checked.TheVariants.{Fine}
 use Rattle.rules.specs.Sheet.{segments_of}
-use Rattle.rules.specs.Reply.{checked_refusal}
 use Rattle.rules.specs.Build.{build_refusal, table_of}
 use Rattle.table_truth.specs.Buildable.{Buildable}
 use Rattle.table_truth.proofs.Refusals.{buildable}
