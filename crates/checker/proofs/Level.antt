@@ -43,7 +43,8 @@ module _ (read : Reader) (ps : List ℤ) (n : Node) where
   -- where a node has a segment there is a level
   whole : (f : ℕ) → n.first < n.last → n.last ≤ f + n.first
       → fault_from read f ps n
-      ≡ or_else (row_fault ps (read n) n) (cond (leaf n) none (or_else (half (pred f) left_of) (half (pred f) right_of)))
+      ≡ or_else (row_fault ps (read n) n)
+      (cond (leaf n) none (or_else (half (pred f) left_of) (half (pred f) right_of)))
   unfolding fault_from
   whole zero l e = absurd (omega arith)
   whole (suc f) l e = refl

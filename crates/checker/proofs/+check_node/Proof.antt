@@ -6,7 +6,6 @@ use Prim.Native.Nat.{ℕ, pred, ◌+◌, ◌*◌, ◌-◌, ◌≤◌, ◌<◌}
 use native.Mathlib.Omega.{arith}
 use borrow.Fn.Kinds.{In}
 use borrow.Fn.PlainCycle.{Measures, is, falls, and}
-use borrow.Author.Rules.{rules}
 use lib.IntN.{ℤ, pos}
 use lib.Signed.{◌≤ℤ◌}
 use Rattle.rules.specs.declared.Node.{Node}
@@ -61,16 +60,16 @@ module _ (t : ℕ) where
   Start = lts.Start (calls t) (here t) node.Post
 
   abbrev OwnDone : Type 0
-  OwnDone = lts.After-check-row2 (calls t) (here t) node.Post
+  OwnDone = lts.After-check_row-own (calls t) (here t) node.Post
 
   abbrev OwnFine : Type 0
-  OwnFine = lts.Else2 (calls t) (here t) node.Post
+  OwnFine = lts.Else-own-ne0 (calls t) (here t) node.Post
 
   abbrev Split : Type 0
-  Split = lts.After-split-of (calls t) (here t) node.Post
+  Split = lts.After-split_of-split (calls t) (here t) node.Post
 
   abbrev LeftDone : Type 0
-  LeftDone = lts.After-check-node (calls t) (here t) node.Post
+  LeftDone = lts.After-check_node-left (calls t) (here t) node.Post
 
   abbrev start : OwnDone → Start
   start c = c.before.before
@@ -92,15 +91,15 @@ module _ (t : ℕ) where
     at = node_at s.args.row s.args.first s.args.last
 
     abbrev stands : Stands points table at
-    stands = s.pre.1.0
+    stands = s.requires.1.0
 
   -- ---------------- a row that is fine is good, and splits at an inner point
   own-none : (c : OwnFine)
       → row_fault (points (begun c)) (row_at (table (begun c)) (begun c).args.row) (at (begun c)) ≡ none
   own-none c =
       let k = own_done c in
-      let z : k.check-row2.result ≡ 0 = omega arith in
-      sym k.check-row2.ensures ∙ ap found_fault z ∙ nothing-found
+      let z : k.check_row-own.result ≡ 0 = omega arith in
+      sym k.check_row-own.ensures ∙ ap found_fault z ∙ nothing-found
 
   row-good : (c : OwnFine) → GoodRow (points (begun c)) (row_at (table (begun c)) (begun c).args.row)
       (begun c).args.first (begun c).args.last
@@ -113,23 +112,23 @@ module _ (t : ℕ) where
   fine c = c.before.before.before
 
   abbrev mid : Split → ℕ
-  mid c = c.split-of.result
+  mid c = c.split_of-split.result
 
   -- the split that is read is the row's
   mid-told : (c : Split) → mid c ≡ split_in (row_at (table (begun (fine c))) (begun (fine c)).args.row)
-  mid-told c = c.split-of.ensures ∙ ap split_in c.before.row_at.ensures
+  mid-told c = c.split_of-split.ensures ∙ ap split_in c.before.row_at.ensures
 
   inside : (c : Split) → Inner (begun (fine c)).args.first (mid c) (begun (fine c)).args.last
   inside c =
       let a = (begun (fine c)).args in
-      let more = (own_done (fine c)).before.if1.left in
+      let more = (own_done (fine c)).before.if-last-first.false in
       subst (λ (m : ℕ). Inner a.first m a.last) (sym (mid-told c)) ((row-good (fine c)).split_between more)
 
-  split-of-requires : lts.Need-split-of-requires (calls t) (here t) node.Post
+  split-of-requires : lts.Need-split_of-split-requires (calls t) (here t) node.Post
   split-of-requires c κs =
       let k = c.before.before in
       subst (λ (r : Row). pos 0 ≤ℤ r.split) (sym c.row_at.ensures)
-      ((row-good k).split-above (own_done k).before.if1.false)
+      ((row-good k).split-above (own_done k).before.if-last-first.false)
 
   left_in : (c : Split)
       → Stands (points (begun (fine c))) (table (begun (fine c))) (left_of (at (begun (fine c))) (mid c))
@@ -139,10 +138,10 @@ module _ (t : ℕ) where
       → Stands (points (begun (fine c))) (table (begun (fine c))) (right_of (at (begun (fine c))) (mid c))
   right-in c = right-stands (stands (begun (fine c))) (inside c)
 
-  check-node-requires : lts.Need-check-node-requires (calls t) (here t) node.Post
-  check-node-requires c κs =
+  check_node-left-requires : lts.Need-check_node-left-requires (calls t) (here t) node.Post
+  check_node-left-requires c κs =
       let s = begun (fine c) in
-      let i = inside c in (omega (arith, s.pre.0, i.above, i.below), (left_in c, s.pre.1.1))
+      let i = inside c in (omega (arith, s.requires.0, i.above, i.below), (left_in c, s.requires.1.1))
 
   -- ---------------- what the halves come to, by the split that was read
   module _ (s : Start) (m : ℕ) (f : ℕ) where
@@ -154,75 +153,75 @@ module _ (t : ℕ) where
       ≡ or_else (half (begun (fine c)) (mid c) f left_of) (half (begun (fine c)) (mid c) f right_of)
   level c f h =
       let s = begun (fine c) in
-      let more = (own_done (fine c)).before.if1.left in
+      let more = (own_done (fine c)).before.if-last-first.false in
       inner-level (read_from (table s)) (points s) (at s) f (stands s).fits.some-segment h more
       ∙ (λ d. or_else (own-none (fine c) d)
       (or_else (half s (sym (mid-told c) d) f left_of) (half s (sym (mid-told c) d) f right_of)))
 
   -- ---------------- the needs that are not trivial, in the order of the code
-  returns : lts.Need-returns (calls t) (here t) node.Post
+  returns : lts.Need-returns-then-last-first (calls t) (here t) node.Post
   returns c f h =
       let s = c.before.before in
-      let leaf = c.before.if1.true in
-      c.check-row.ensures
-      ∙ sym (leaf-level (read_from (table s)) (points s) (at s) f (stands s).ranges.some-segment h leaf)
+      let leaf = c.before.if-last-first.true in
+      c.check_row.ensures
+      ∙ sym (leaf-level (read_from (table s)) (points s) (at s) f (stands s).fits.some-segment h leaf)
 
-  returns-2 : lts.Need-returns-2 (calls t) (here t) node.Post
+  returns-2 : lts.Need-returns-then-own-ne0 (calls t) (here t) node.Post
   returns-2 c f h =
       let k = c.before in
       let s = start k in
-      let own = k.check-row2 in
-      let more = k.before.if1.false in
+      let own = k.check_row-own in
+      let more = k.before.if-last-first.false in
       let m = split_in (row_at (table s) s.args.row) in
       let later = or_else (half s m f left_of) (half s m f right_of) in
       found-stops own.result later (omega arith)
       ∙ (λ d. or_else (own.ensures d) later)
       ∙ sym (inner-level (read_from (table s)) (points s) (at s) f (stands s).fits.some-segment h more)
 
-  returns-3 : lts.Need-returns-3 (calls t) (here t) node.Post
+  returns-3 : lts.Need-returns-then-left-ne0 (calls t) (here t) node.Post
   returns-3 c f h =
       let k = c.before in
       let e = k.before in
       let s = begun (fine e) in
       let right = half s (mid e) f right_of in
       let i = inside e in
-      found-stops k.check-node.result right (omega arith)
-      ∙ (λ d. or_else (k.check-node.ensures (pred f) (omega (arith, i.below)) d) right)
+      found-stops k.check_node-left.result right (omega arith)
+      ∙ (λ d. or_else (k.check_node-left.ensures (pred f) (omega (arith, i.below)) d) right)
       ∙ sym (level e f h)
 
   -- past the left half
-  abbrev split : lts.Else3 (calls t) (here t) node.Post → Split
+  abbrev split : lts.Else-left-ne0 (calls t) (here t) node.Post → Split
   split c = c.before.before
 
-  right-row : (c : lts.Else3 (calls t) (here t) node.Post)
+  right-row : (c : lts.Else-left-ne0 (calls t) (here t) node.Post)
       → ((begun (fine (split c))).args.first < mid (split c)) × (mid (split c) < (begun (fine (split c))).args.last)
       × ((begun (fine (split c))).args.row + 2 * (mid (split c) - (begun (fine (split c))).args.first) < most_rows)
   right-row c = let i = inside (split c) in (i.above, i.below, row_small (right-in (split c)))
 
-  check-node-requires-2 : lts.Need-check-node-requires-2 (calls t) (here t) node.Post
-  check-node-requires-2 c κs =
+  check_node-requires : lts.Need-check_node-requires (calls t) (here t) node.Post
+  check_node-requires c κs =
       let e = split c in
       let s = begun (fine e) in
       let i = inside e in
-      (omega (arith, s.pre.0, i.above, i.below), (right-in e, s.pre.1.1))
+      (omega (arith, s.requires.0, i.above, i.below), (right-in e, s.requires.1.1))
 
-  returns-4 : lts.Need-returns-4 (calls t) (here t) node.Post
+  returns-4 : lts.Need-returns (calls t) (here t) node.Post
   returns-4 c f h =
       let k = c.before.before in
       let e = k.before in
       let s = begun (fine e) in
       let i = inside e in
       let right = half s (mid e) f right_of in
-      let z : k.check-node.result ≡ 0 = omega arith in
-      let left = sym (k.check-node.ensures (pred f) (omega (arith, i.below))) ∙ ap found_fault z ∙ nothing-found in
-      c.check-node2.ensures (pred f) (omega (arith, i.above))
+      let z : k.check_node-left.result ≡ 0 = omega arith in
+      let left = sym (k.check_node-left.ensures (pred f) (omega (arith, i.below))) ∙ ap found_fault z ∙ nothing-found in
+      c.check_node.ensures (pred f) (omega (arith, i.above))
       ∙ sym (level e f h ∙ (λ d. or_else (left d) right))
 
-pub +check-node-spec : {M : Type 1} → statement M
-+check-node-spec = close μ λ t. lts.spec (calls t) (here t) node.Post
+pub +check_node_spec : {M : Type 1} → statement M
++check_node_spec = close μ λ t. lts.spec (calls t) (here t) node.Post
     (λ c. let h = stands t c in omega (arith, h.points-in, h.fine.not_more, h.fits.some-segment))
     (λ c κs. c.before.requires.1) (returns t) (λ c κs. c.before.requires.1) (returns-2 t)
     (λ c κs. let h = stands t (begun t c.before) in omega (arith, fits-row h.fits, h.fine.table-long))
-    (split-of-requires t) (λ c. omega (arith, row_small (left_in t c))) (check-node-requires t) (returns-3 t)
+    (split-of-requires t) (λ c. omega (arith, row_small (left_in t c))) (check_node-left-requires t) (returns-3 t)
     (λ c. omega (arith, (right-row t c).0)) (λ c. let r = right-row t c in omega (arith, r.0, r.1, r.2))
-    (λ c. let r = right-row t c in omega (arith, r.0, r.1, r.2)) (check-node-requires-2 t) (returns-4 t)
+    (λ c. let r = right-row t c in omega (arith, r.0, r.1, r.2)) (check_node-requires t) (returns-4 t)

@@ -21,8 +21,8 @@ returns c =
     let f = x_fits s in
     let g = y-fits s in
     let x = simp (to_z-of_z f.0, to_z-of_z f.1, to_z-of_z f.2) at of-x.holds.ensures in
-    let y = simp (to_z-of_z g.0, to_z-of_z g.1, to_z-of_z g.2) at c.holds2.ensures in
+    let y = simp (to_z-of_z g.0, to_z-of_z g.1, to_z-of_z g.2) at c.holds-2.ensures in
     λ d. x d && y d
 
-pub box-holds-spec : {M : Type 1} → statement M
-box-holds-spec = tie.close (tie.spec (search rules) (search rules) returns)
+pub box_holds_spec : {M : Type 1} → statement M
+box_holds_spec = tie.close (tie.spec (search rules) (search rules) returns)

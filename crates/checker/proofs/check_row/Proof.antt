@@ -5,7 +5,6 @@ use mathlib.Core.List.{List}
 use mathlib.Core.Option.{Option, none}
 use native.Mathlib.Omega.{arith}
 use borrow.Author.Rules.{rules}
-use borrow.Author.Tests.{not-true, not-false}
 use lib.IntN.{ℤ}
 use Rattle.integers.specs.Order.{T_true}
 use Rattle.rules.specs.declared.Node.{Node}
@@ -42,18 +41,18 @@ module _ (s : tie.Start) where
   holds = row_holds points row s.args.first s.args.last
 
 -- the places of the code: where the row is asked whether it is good, and whether it holds its run
-module _ (c : tie.After-good-between) where
+module _ (c : tie.After-good_between) where
   abbrev start : tie.Start
   start = c.before.before.before.before
 
-  good-told : c.good-between.result ≡ is_good start
+  good-told : c.good_between.result ≡ is_good start
   good-told =
       let a = start.args in
-      c.good-between.ensures
-      ∙ ap (λ (r : Row). good (points start) r a.first a.last) c.before.before.row_at.ensures
+      c.good_between.ensures
+      ∙ ap (λ (r : Row). good (points start) r a.first a.last) c.before.before.row_at-r.ensures
 
-good-between-requires : tie.Need-good-between-requires
-good-between-requires c κs =
+good_between-requires : tie.Need-good_between-requires
+good_between-requires c κs =
     let s = c.before.before.before in
     let h = s.requires.0 in (
       (
@@ -67,61 +66,61 @@ good-between-requires c κs =
       ),
     )
 
-returns : tie.Need-returns
+returns : tie.Need-returns-then-not-good_between
 unfolding row_fault
 returns c =
     let k = c.before.before in
     let s = start k in
-    let no = sym (good-told k) ∙ not-true _ c.before.if1.true in
+    let no = sym (good-told k) ∙ c.before.if-not-good_between.true in
     c.found.ensures s.args.first s.args.last ∙ sym (λ d. told s (no d) (holds s))
 
 -- past the first test the row is good, and its strip holds 0
-good-yes : (c : tie.Else1) → is_good (start c.before) ≡ true
-good-yes c = sym (good-told c.before) ∙ not-false _ c.if1.false
+good-yes : (c : tie.Else-not-good_between) → is_good (start c.before) ≡ true
+good-yes c = sym (good-told c.before) ∙ c.if-not-good_between.false
 
-holds-run-requires : tie.Need-holds-run-requires
-holds-run-requires c κs =
+holds_run-requires : tie.Need-holds_run-requires
+holds_run-requires c κs =
     let k = c.before in
     let s = start k.before in
     let a = s.args in
-    let h = s.pre.0 in
+    let h = s.requires.0 in
     let strip = (good-read (points s) (row s) a.first a.last (T_true (good-yes k))).strip in (
       h.fits.some-segment,
       h.points-in,
-      s.pre.1,
-      subst HoldsStart (sym k.before.before.before.row_at.ensures) strip,
+      s.requires.1,
+      subst HoldsStart (sym k.before.before.before.row_at-r.ensures) strip,
     )
 
-module _ (c : tie.After-holds-run) where
-  abbrev found-good : tie.Else1
+module _ (c : tie.After-holds_run) where
+  abbrev found-good : tie.Else-not-good_between
   found-good = c.before.before
 
-  holds-told : c.holds-run.result ≡ holds (start found-good.before)
+  holds-told : c.holds_run.result ≡ holds (start found-good.before)
   holds-told =
       let s = start found-good.before in
-      c.holds-run.ensures
+      c.holds_run.ensures
       ∙ ap (λ (r : Row). row_holds (points s) r s.args.first s.args.last)
-      found-good.before.before.before.row_at.ensures
+      found-good.before.before.before.row_at-r.ensures
 
-returns-2 : tie.Need-returns-2
+returns-2 : tie.Need-returns-then-not-holds_run
 unfolding row_fault
 returns-2 c =
     let k = c.before.before in
     let s = start (found-good k).before in
     let yes = good-yes (found-good k) in
-    let no = sym (holds-told k) ∙ not-true _ c.before.if2.true in
-    c.found2.ensures s.args.first s.args.last ∙ sym (λ d. told s (yes d) (no d))
+    let no = sym (holds-told k) ∙ c.before.if-not-holds_run.true in
+    c.found-then-not-holds_run.ensures s.args.first s.args.last ∙ sym (λ d. told s (yes d) (no d))
 
-returns-3 : tie.Need-returns-3
+returns-3 : tie.Need-returns
 unfolding row_fault
 returns-3 c =
     let k = c.before in
     let s = start (found-good k).before in
     let yes = good-yes (found-good k) in
-    let held = sym (holds-told k) ∙ not-false _ c.if2.false in
+    let held = sym (holds-told k) ∙ c.if-not-holds_run.false in
     nothing-found ∙ sym (λ d. told s (yes d) (held d))
 
-pub check-row-spec : {M : Type 1} → statement M
-check-row-spec =
+pub check_row_spec : {M : Type 1} → statement M
+check_row_spec =
     tie.close (tie.spec
-    (search rules) good-between-requires (search rules) returns holds-run-requires (search rules) returns-2 returns-3)
+    (search rules) good_between-requires (search rules) returns holds_run-requires (search rules) returns-2 returns-3)

@@ -17,5 +17,5 @@ returns c first last =
     let number : k % past ≡ a.number = omega arith in
     let row : k / past ≡ a.row = omega arith in simp (above, number, row)
 
-pub found-spec : {M : Type 1} → statement M
-found-spec = tie.close (tie.spec (search rules) (search rules) returns)
+pub found_spec : {M : Type 1} → statement M
+found_spec = tie.close (tie.spec (search rules) (search rules) returns)

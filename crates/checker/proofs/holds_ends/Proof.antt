@@ -20,11 +20,11 @@ returns c =
     let squared = c.before.before.before.before in
     let t = to_z-of_z (tmax-fits squared.before.before) in
     let k = squared.size2 in
-    let z = result w64 k.type-inv (k.ensures ∙ ap size² squared.before.step.ensures) in
-    λ d. le_z (z d) (t d) && c.before.box-holds.ensures d && c.box-holds2.ensures d
+    let z = result w64 k.type_inv (k.ensures ∙ ap size² squared.before.step.ensures) in
+    λ d. le_z (z d) (t d) && c.before.box_holds.ensures d && c.box_holds-2.ensures d
 
-pub holds-ends-spec : {M : Type 1} → statement M
-holds-ends-spec =
+pub holds_ends_spec : {M : Type 1} → statement M
+holds_ends_spec =
     tie.close (tie.spec
     (search rules) (λ c κs. let h = c.before.requires in stepped h.0 h.1 c.step.ensures) (search rules)
     (search rules) returns)

@@ -24,14 +24,14 @@ returns c =
     let s = across.before.before.before.before in
     let f = c-fits s in
     let g = t-fits s in
-    let k = across.before.before.before.c-at in
-    let l = along.before.before.before.t-at in
+    let k = across.before.before.before.c_at in
+    let l = along.before.before.before.t_at in
     let held-c = across.holds.ensures
-    ∙ (λ d. holds_number (to_z-of_z f.0 d) (to_z-of_z f.1 d) (result w64 k.type-inv k.ensures d)) in
-    let held-t = along.holds2.ensures
-    ∙ (λ d. holds_number (to_z-of_z g.0 d) (to_z-of_z g.1 d) (result w64 l.type-inv l.ensures d)) in
-    λ d. held-c d && held-t d && c.box-holds.ensures d
+    ∙ (λ d. holds_number (to_z-of_z f.0 d) (to_z-of_z f.1 d) (result w64 k.type_inv k.ensures d)) in
+    let held-t = along.holds-2.ensures
+    ∙ (λ d. holds_number (to_z-of_z g.0 d) (to_z-of_z g.1 d) (result w64 l.type_inv l.ensures d)) in
+    λ d. held-c d && held-t d && c.box_holds.ensures d
 
-pub holds-point-spec : {M : Type 1} → statement M
-holds-point-spec =
+pub holds_point_spec : {M : Type 1} → statement M
+holds_point_spec =
     tie.close (tie.spec (search rules) (search rules) (search rules) (search rules) (search rules) returns)
