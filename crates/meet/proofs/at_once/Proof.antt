@@ -13,17 +13,17 @@ use Rattle.meet.proofs.at_once.Tie as tie
 abbrev said : tie.Start → Next → Reply
 said s m = yes_or_no s.args.tally.allowance (on_visit m (λ y. over tt y))
 
-returns : tie.Need-returns
+returns : tie.Need-returns-in_default
 returns c =
-    let s = c.before.before.before.before in
-    let e : next s.args.tally ≡ Spent = cc in c.says.ensures ∙ sym (ap (said s) e)
+    let k = c.before in
+    let s = k.before.before in
+    let e : next s.args.tally ≡ Spent = sym k.in_default.ensures in c.says.ensures ∙ sym (ap (said s) e)
 
-returns-2 : tie.Need-returns-2
+returns-2 : tie.Need-returns
 returns-2 c =
-    let k = c.before.before in
-    let s = k.before.before.before in
-    c.says2.ensures ∙ sym (ap (said s) (sym k.before.before.visit.ensures ∙ k.counted.given.1))
+    let k = c.before in
+    let s = k.before.before in c.says-2.ensures ∙ sym (ap (said s) (sym k.in-Left.ensures))
 
-pub at-once-spec : {M : Type 1} → statement M
-at-once-spec =
+pub at_once_spec : {M : Type 1} → statement M
+at_once_spec =
     tie.close (tie.spec (search rules) (search rules) (search rules) (search rules) returns (search rules) returns-2)

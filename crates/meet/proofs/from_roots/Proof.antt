@@ -5,7 +5,6 @@ use mathlib.Core.Bool.{Bool}
 use mathlib.Core.List.{List}
 use Prim.Native.Nat.{ℕ, ◌+◌, ◌<◌}
 use native.Mathlib.Omega.{arith}
-use borrow.Author.Tests.{not-true, not-false}
 use lib.Dec.{T}
 use lib.IntN.{ℤ}
 use Rattle.integers.specs.Order.{T_true}
@@ -30,10 +29,10 @@ use Rattle.meet.proofs.from_roots.Tie as tie
 
 -- ---------------- the lines and tables, the pair of their roots, and the levels that are enough for it
 abbrev ps : tie.Start → List ℤ
-ps s = s.args.points-a.now
+ps s = s.args.points_a.now
 
 abbrev qs : tie.Start → List ℤ
-qs s = s.args.points-b.now
+qs s = s.args.points_b.now
 
 abbrev both : tie.Start → Pair
 both s = roots (ps s) (qs s)
@@ -42,108 +41,108 @@ abbrev levels : tie.Start → ℕ
 levels s = segments_of (ps s) + segments_of (qs s)
 
 abbrev does : tie.Start → Pair → Visit Nothing Pair
-does s = meet_visit (ps s) s.args.table-a.now (qs s) s.args.table-b.now
+does s = meet_visit (ps s) s.args.table_a.now (qs s) s.args.table_b.now
 
 some : (s : tie.Start) → 0 < levels s
 some s = let f = s.requires.0.some-points in omega arith
 
 -- ---------------- the places past each check
-abbrev start-a : tie.Else1 → tie.Start
+abbrev start-a : tie.Else-not-row_good → tie.Start
 start-a c = c.before.before.before
 
-abbrev past-a : tie.Else2 → tie.Else1
+abbrev past-a : tie.Else-not-row_good-2 → tie.Else-not-row_good
 past-a c = c.before.before.before
 
-abbrev start-b : tie.Else2 → tie.Start
+abbrev start-b : tie.Else-not-row_good-2 → tie.Start
 start-b c = start-a (past-a c)
 
 -- ---------------- what each check said
 abbrev root_good_a : tie.Start → Bool
-root_good_a s = good (ps s) (row_at s.args.table-a.now 0) 0 (segments_of (ps s))
+root_good_a s = good (ps s) (row_at s.args.table_a.now 0) 0 (segments_of (ps s))
 
 abbrev root_good_b : tie.Start → Bool
-root_good_b s = good (qs s) (row_at s.args.table-b.now 0) 0 (segments_of (qs s))
+root_good_b s = good (qs s) (row_at s.args.table_b.now 0) 0 (segments_of (qs s))
 
-told-a : (c : tie.After-row-good) → c.row-good.result ≡ root_good_a c.before.before
+told-a : (c : tie.After-row_good) → c.row_good.result ≡ root_good_a c.before.before
 told-a c =
     let s = c.before.before in
-    c.row-good.ensures ∙ (λ i. good (ps s) (c.before.row_at.ensures i) 0 (segments_of (ps s)))
+    c.row_good.ensures ∙ (λ i. good (ps s) (c.before.row_at-r.ensures i) 0 (segments_of (ps s)))
 
-told-b : (c : tie.After-row-good2) → c.row-good2.result ≡ root_good_b (start-a c.before.before)
+told-b : (c : tie.After-row_good-2) → c.row_good-2.result ≡ root_good_b (start-a c.before.before)
 told-b c =
     let s = start-a c.before.before in
-    c.row-good2.ensures ∙ (λ i. good (qs s) (c.before.row-at2.ensures i) 0 (segments_of (qs s)))
+    c.row_good-2.ensures ∙ (λ i. good (qs s) (c.before.row_at-q.ensures i) 0 (segments_of (qs s)))
 
-good-a : (c : tie.Else1) → T (root_good_a (start-a c))
-good-a c = T_true (sym (told-a c.before) ∙ not-false _ c.if1.false)
+good-a : (c : tie.Else-not-row_good) → T (root_good_a (start-a c))
+good-a c = T_true (sym (told-a c.before) ∙ c.if-not-row_good.false)
 
-good-b : (c : tie.Else2) → T (root_good_b (start-b c))
-good-b c = T_true (sym (told-b c.before) ∙ not-false _ c.if2.false)
+good-b : (c : tie.Else-not-row_good-2) → T (root_good_b (start-b c))
+good-b c = T_true (sym (told-b c.before) ∙ c.if-not-row_good-2.false)
 
-returns : tie.Need-returns
+returns : tie.Need-returns-then-not-row_good
 returns c =
     let s = c.before.before.before.before.before in
     let k = s.args.allowance in
-    let bad = sym (told-a c.before.before.before) ∙ not-true _ c.before.before.if1.true in
+    let bad = sym (told-a c.before.before.before) ∙ c.before.before.if-not-row_good.true in
     c.answer.ensures
-    ∙ ap (λ (r : ℕ). yes_or_no k (walked_in tt tt LineA LineB k r)) c.before.bad-row-due.ensures
+    ∙ ap (λ (r : ℕ). yes_or_no k (walked_in tt tt LineA LineB k r)) c.before.bad_row_due.ensures
     ∙ ap (yes_or_no k)
     (reads-bad-due tt tt LineA LineB (does s) (both s) tt (fresh k) (levels s) (some s) 0 (omega arith)
     (bad-a _ _ _ _ (both s) bad))
 
-returns-2 : tie.Need-returns-2
+returns-2 : tie.Need-returns-then-not-row_good-2
 returns-2 c =
     let f = c.before.before.before.before.before in
     let s = start-a f in
     let k = s.args.allowance in
-    let bad = sym (told-b c.before.before.before) ∙ not-true _ c.before.before.if2.true in
-    c.answer2.ensures
-    ∙ ap (λ (r : ℕ). yes_or_no k (walked_in tt tt LineA LineB k r)) c.before.bad-second-due.ensures
+    let bad = sym (told-b c.before.before.before) ∙ c.before.before.if-not-row_good-2.true in
+    c.answer-then-not-row_good-2.ensures
+    ∙ ap (λ (r : ℕ). yes_or_no k (walked_in tt tt LineA LineB k r)) c.before.bad_second_due.ensures
     ∙ ap (yes_or_no k)
     (reads-second-due tt tt LineA LineB (does s) (both s) tt (fresh k) (levels s) (some s) 0 (omega arith)
     (bad-b _ _ _ _ (both s) (good-a f) bad))
 
 -- ---------------- both rows are good
-read_a : (c : tie.Else1) → Read (ps (start-a c)) c.before.before.row_at.result (root (ps (start-a c)))
+read_a : (c : tie.Else-not-row_good) → Read (ps (start-a c)) c.before.before.row_at-r.result (root (ps (start-a c)))
 read_a c = record {
-  table = (start-a c).args.table-a.now;
+  table = (start-a c).args.table_a.now;
   stands = root_stands (start-a c).requires.0;
-  row-good = T_true (sym c.before.row-good.ensures ∙ not-false _ c.if1.false);
+  row-good = T_true (sym c.before.row_good.ensures ∙ c.if-not-row_good.false);
 }
 
-read-b : (c : tie.Else2) → Read (qs (start-b c)) c.before.before.row-at2.result (root (qs (start-b c)))
+read-b : (c : tie.Else-not-row_good-2) → Read (qs (start-b c)) c.before.before.row_at-q.result (root (qs (start-b c)))
 read-b c = record {
-  table = (start-b c).args.table-b.now;
+  table = (start-b c).args.table_b.now;
   stands = root_stands (start-b c).requires.1;
-  row-good = T_true (sym c.before.row-good2.ensures ∙ not-false _ c.if2.false);
+  row-good = T_true (sym c.before.row_good-2.ensures ∙ c.if-not-row_good-2.false);
 }
 
-returns-3 : tie.Need-returns-3
+returns-3 : tie.Need-returns-then-boxes_apart
 returns-3 c =
     let g = c.before.before.before in
     let f = past-a g in
     let s = start-b g in
     let k = s.args.allowance in
     let told =
-    c.before.before.boxes-apart.ensures
-    ∙ (λ i. boxes_apart (f.before.before.row_at.ensures i) (g.before.before.row-at2.ensures i))
+    c.before.before.boxes_apart.ensures
+    ∙ (λ i. boxes_apart (f.before.before.row_at-r.ensures i) (g.before.before.row_at-q.ensures i))
     in
-    let passes = boxes-dismiss _ _ _ _ (both s) (good-a f) (good-b g) (sym told ∙ c.before.if3.true) in
+    let passes = boxes-dismiss _ _ _ _ (both s) (good-a f) (good-b g) (sym told ∙ c.before.if-boxes_apart.true) in
     c.at_once.ensures ∙ ap (yes_or_no k) (dismissed (does s) (both s) (fresh k) (levels s) (some s) passes)
 
-from-good-roots-requires : tie.Need-from-good-roots-requires
-from-good-roots-requires c κs =
+from_good_roots-requires : tie.Need-from_good_roots-requires
+from_good_roots-requires c κs =
     let g = c.before.before in
     let s = start-b g in
     record {
-      of-a = record { stands = root_stands s.pre.0; row-good = good-a (past-a g) };
-      of-b = record { stands = root_stands s.pre.1; row-good = good-b g };
+      of-a = record { stands = root_stands s.requires.0; row-good = good-a (past-a g) };
+      of-b = record { stands = root_stands s.requires.1; row-good = good-b g };
     }
 
-pub from-roots-spec : {M : Type 1} → statement M
-from-roots-spec =
+pub from_roots_spec : {M : Type 1} → statement M
+from_roots_spec =
     tie.close (tie.spec
     (search rules) (search rules) (search rules) (search rules) (search rules) (search rules) returns (search rules)
     (search rules) (search rules) (search rules) returns-2
     (λ c κs. ((placed (read_a (past-a c))).box-on, (placed (read-b c)).box-on)) (search rules) returns-3
-    from-good-roots-requires (λ c. c.from-good-roots.ensures))
+    from_good_roots-requires (λ c. c.from_good_roots.ensures))
