@@ -8,20 +8,20 @@ use borrow.Author.Rules.{rules}
 use Rattle.inside.proofs.no_ring.Statement.{statement}
 use Rattle.inside.proofs.no_ring.Tie as tie
 
-returns : tie.Need-returns
+returns : tie.Need-returns-then-count-lt4
 returns c =
     let ps = c.before.args.points.now in
-    let few = lt-ltb _ _ c.if1.true in sym (λ d. few d || not (same_point (point ps 0) (point ps (segments_of ps))))
+    let few = lt-ltb _ _ c.if-count-lt4.true in sym (λ d. few d || not (same_point (point ps 0) (point ps (segments_of ps))))
 
-returns-2 : tie.Need-returns-2
+returns-2 : tie.Need-returns
 returns-2 c =
     let ps = c.before.before.before.before.args.points.now in
-    let few = le-ltb _ _ c.before.before.before.if1.false in
+    let few = le-ltb _ _ c.before.before.before.if-count-lt4.false in
     let a = c.before.before.point_at.ensures in
-    let b = c.before.point-at2.ensures in
+    let b = c.before.point_at-2.ensures in
     (λ d. not (c.same_point.ensures d))
     ∙ (λ d. not (same_point (a d) (b d)))
     ∙ sym (λ d. few d || not (same_point (point ps 0) (point ps (segments_of ps))))
 
-pub no-ring-spec : {M : Type 1} → statement M
-no-ring-spec = tie.close (tie.spec returns (search rules) (search rules) (search rules) (search rules) returns-2)
+pub no_ring_spec : {M : Type 1} → statement M
+no_ring_spec = tie.close (tie.spec returns (search rules) (search rules) (search rules) (search rules) returns-2)
