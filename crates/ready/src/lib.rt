@@ -24,7 +24,7 @@ pub enum Needed {
 }
 
 // Whether the tables that a question needs stand ready, or what is told in place of its answer.
-#[derive(Drop)]
+#[derive(Clone, Copy)]
 pub enum Readied {
     Ready,
     Told(Reply),

@@ -14,7 +14,7 @@ use numerals::{Number, within};
 use rules::Line;
 
 // A text line, read.
-#[derive(Drop)]
+#[derive(Clone, Copy)]
 pub enum Record {
     Start(Line),
     Pt(i64, i64),

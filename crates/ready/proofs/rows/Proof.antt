@@ -4,8 +4,8 @@ use borrow.Author.Rules.{rules}
 use Rattle.ready.proofs.rows.Statement.{statement}
 use Rattle.ready.proofs.rows.Tie as tie
 
-pub rows-spec : {M : Type 1} → statement M
-rows-spec =
+pub rows_spec : {M : Type 1} → statement M
+rows_spec =
     tie.close (tie.spec
     (search rules) (search rules) (search rules) (search rules) (search rules) (search rules) (search rules)
     (λ c. rw sub-zero c.before.requires.front))

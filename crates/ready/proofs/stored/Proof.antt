@@ -4,5 +4,5 @@ use borrow.Author.Rules.{rules}
 use Rattle.ready.proofs.stored.Statement.{statement}
 use Rattle.ready.proofs.stored.Tie as tie
 
-pub stored-spec : {M : Type 1} → statement M
-stored-spec = tie.close (tie.spec (search rules) (search rules) (search rules) (search rules) (λ c. rw sub-zero))
+pub stored_spec : {M : Type 1} → statement M
+stored_spec = tie.close (tie.spec (search rules) (search rules) (search rules) (search rules) (λ c. rw sub-zero))
