@@ -11,7 +11,8 @@ use Rattle.rules.specs.Plain.{on_segment, crosses}
 use Rattle.rules.specs.Tree.{row_at}
 use Rattle.rules.specs.Rows.{good}
 use Rattle.rules.specs.Walk.{refuse, finish, pass, halve}
-use Rattle.rules.specs.Questions.{leaf, split_in, left_of, right_of, start_of, end_of, heading_of, clear_of, count, in_visit}
+use Rattle.rules.specs.Questions.{leaf, split_in, left_of, right_of, start_of, end_of, heading_of, clear_of, count}
+use Rattle.rules.specs.Questions.{in_visit}
 use Rattle.row.specs.Parts.{frame_good, leaf_fits, split_fits}
 use Rattle.row.specs.Stands.{EndsOn}
 use Rattle.row.proofs.OneVisit.{row-refused, frame_refused, leaf-written, inner-written, split_between}

@@ -25,7 +25,8 @@ step_visit n (Halve s) = halve (left_of n s) (right_of n s)
 -- what a visit comes to where the frame of the row is good: of a leaf, by whether its chord crosses the ray, the last
 -- rule holds, z is clear of the node and z is on the segment
 abbrev pub leaf_by : Bool → Bool → Bool → Bool → Step
-leaf_by crossed is_good is_clear is_on = cond is_good (cond is_clear (Pass crossed) (cond is_on Finish (Pass crossed))) Bad
+leaf_by crossed is_good is_clear is_on =
+    cond is_good (cond is_clear (Pass crossed) (cond is_on Finish (Pass crossed))) Bad
 
 -- and of a node of more segments, with a split
 abbrev pub inner_by : ℕ → Bool → Bool → Bool → Step

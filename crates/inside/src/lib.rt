@@ -1,5 +1,5 @@
-// IN: which side of a ring a point is on. `inside` replies as `in_reply` says, whatever the points, the table, the point
-// and the allowance are.
+// IN: which side of a ring a point is on. `inside` replies as `in_reply` says, whatever the points, the table, the
+// point and the allowance are.
 #![tactic(auto)]
 
 ghost use Rattle.std.specs.Prelude.{◌≡◌, true, false, ◌≤◌, length};

@@ -11,7 +11,8 @@ use Rattle.inside.proofs.no_ring.Tie as tie
 returns : tie.Need-returns-then-count-lt4
 returns c =
     let ps = c.before.args.points.now in
-    let few = lt-ltb _ _ c.if-count-lt4.true in sym (λ d. few d || not (same_point (point ps 0) (point ps (segments_of ps))))
+    let few = lt-ltb _ _ c.if-count-lt4.true in
+    sym (λ d. few d || not (same_point (point ps 0) (point ps (segments_of ps))))
 
 returns-2 : tie.Need-returns
 returns-2 c =
