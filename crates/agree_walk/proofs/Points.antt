@@ -16,8 +16,8 @@ use Rattle.rules.specs.Sheet.{point, on_sheet}
 use Rattle.rules.specs.Walk.{Walked, ended, over, spent, refused}
 use Rattle.rules.specs.Questions.{Nothing, near_walk, Asked, all_near, not_near, unasked, faulted, on_near, ask_all}
 use Rattle.rules.specs.Questions.{on_all_near}
-use Rattle.ending.specs.Ending.{packed, visits_in, end_in, SPENT, bad_row, bad_second, refusal_at, refusal_in, tally_in, due}
-use Rattle.ending.specs.Ending.{walked_in}
+use Rattle.ending.specs.Ending.{packed, visits_in, end_in, SPENT, bad_row, bad_second, refusal_at, refusal_in}
+use Rattle.ending.specs.Ending.{tally_in, due, walked_in}
 use Rattle.ending.proofs.Ends.{visits-in, end-in, is-even, is_odd, is-ended, is-spent, is-bad}
 use Rattle.agree_walk.specs.Asking.{OFF, off_sheet, asked}
 
@@ -35,7 +35,8 @@ module _ (line other : Line) (i allowance : ℕ) where
         → asked line other i allowance r ≡ on_near line i w all_near
     unfolding asked
     heard ne e =
-        (λ j. cond (ne_eqb (end_in r) OFF ne j) (faulted (off_sheet line i (visits_in r))) (on_near line i (e j) all_near))
+        (λ j. cond (ne_eqb (end_in r) OFF ne j) (faulted (off_sheet line i (visits_in r)))
+        (on_near line i (e j) all_near))
 
     pub is-near : end_in r ≡ 2 → asked line other i allowance r ≡ all_near (tally_in allowance r)
     is-near e = heard (λ q. omega arith) (is-ended tt tt other other allowance r e)
@@ -130,10 +131,12 @@ module _ (l : Line) (ps : List ℤ) (m : Line) (qs t : List ℤ) (D : ℤ) where
 
   -- one point
   pub one-point : (i : ℕ) (y : Tally) {s : Bool} → on_sheet (point ps i) ≡ s
-      → cond s (on_near l i (near_walk m qs t (point ps i) D y) all_near) (faulted (off_sheet l i y.visits)) ≡ asks i 1 y
+      → cond s (on_near l i (near_walk m qs t (point ps i) D y) all_near) (faulted (off_sheet l i y.visits))
+      ≡ asks i 1 y
   unfolding ask_all
   one-point i y e =
-      sym (λ j. cond (e j) (on_near l i (near_walk m qs t (point ps i) D y) all_near) (faulted (off_sheet l i y.visits)))
+      sym (λ j. cond (e j) (on_near l i (near_walk m qs t (point ps i) D y) all_near)
+      (faulted (off_sheet l i y.visits)))
 
   -- a point, and then the others
   point-then : (i k : ℕ) (y : Tally) → asks i (suc k) y ≡ on_all_near (asks i 1 y) (asks (suc i) k)

@@ -12,64 +12,70 @@ use borrow.Author.Rules.{rules}
 use Rattle.agree_walk.proofs.agreement.Statement.{statement}
 use Rattle.agree_walk.proofs.agreement.Tie as tie
 
-returns : tie.Need-returns
+returns : tie.Need-returns-then-end-lt-ENDED
 returns c =
     let t = c.before in
     let a = t.before.before.before.args in
-    let e = t.before.before.end-in.ensures in
-    let small : end_in a.stopped.ending < 2 = omega (arith, e, t.if1.true) in
+    let e = t.before.before.end_in-end.ensures in
+    let small : end_in a.stopped.ending < 2 = omega (arith, e, t.if-end-lt-ENDED.true) in
     c.disagrees.ensures
-    ∙ ap (disagrees a.line a.stopped.at) t.before.visits-in.ensures
+    ∙ ap (disagrees a.line a.stopped.at) t.before.visits_in-visits.ensures
     ∙ sym (ap (agreed a.allowance)
     (is-not-near a.line a.other a.stopped.at a.allowance a.stopped.ending small))
 
-returns-2 : tie.Need-returns-2
+returns-2 : tie.Need-returns-then-end-eq-ENDED
 returns-2 c =
     let t = c.before in
     let a = t.before.before.before.before.args in
-    let e = t.before.before.before.end-in.ensures in
+    let e = t.before.before.before.end_in-end.ensures in
     c.says.ensures
-    ∙ ap (says YES) t.before.before.visits-in.ensures
+    ∙ ap (says YES) t.before.before.visits_in-visits.ensures
     ∙ sym (ap (agreed a.allowance)
-    (is-near a.line a.other a.stopped.at a.allowance a.stopped.ending (sym e ∙ t.if2.true)))
+    (is-near a.line a.other a.stopped.at a.allowance a.stopped.ending (sym e ∙ t.if-end-eq-ENDED.true)))
 
-returns-3 : tie.Need-returns-3
+returns-3 : tie.Need-returns-then-end-eq-SPENT
 returns-3 c =
     let t = c.before in
     let a = t.before.before.before.before.before.args in
     let asked = t.before.before.before.before in
-    let e = asked.end-in.ensures in
-    c.says2.ensures
+    let e = asked.end_in-end.ensures in
+    c.says-then-end-eq-SPENT.ensures
     ∙ sym (ap (agreed a.allowance)
-    (is-unasked a.line a.other a.stopped.at a.allowance a.stopped.ending (sym e ∙ t.if3.true)))
+    (is-unasked a.line a.other a.stopped.at a.allowance a.stopped.ending (sym e ∙ t.if-end-eq-SPENT.true)))
 
-returns-4 : tie.Need-returns-4
+returns-4 : tie.Need-returns-then-end-eq-OFF
 returns-4 c =
     let t = c.before in
     let v = t.before.before.before.before in
     let a = v.before.before.args in
-    let e = v.before.end-in.ensures in
+    let e = v.before.end_in-end.ensures in
     c.refuses.ensures
-    ∙ ap (λ k. refuses (off_sheet a.line a.stopped.at k)) v.visits-in.ensures
+    ∙ ap (λ k. refuses (off_sheet a.line a.stopped.at k)) v.visits_in-visits.ensures
     ∙ sym (ap (agreed a.allowance)
-    (is-off a.line a.other a.stopped.at a.allowance a.stopped.ending (sym e ∙ t.if4.true)))
+    (is-off a.line a.other a.stopped.at a.allowance a.stopped.ending (sym e ∙ t.if-end-eq-OFF.true)))
 
-returns-5 : tie.Need-returns-5
+returns-5 : tie.Need-returns
 returns-5 c =
     let k = c.before.before in
     let a = k.before.before.before.before.before.before.args in
     let asked = k.before.before.before.before.before in
-    let e = asked.end-in.ensures in
+    let e = asked.end_in-end.ensures in
     let big : bad_row ≤ end_in a.stopped.ending =
-    omega (arith, e, k.before.before.before.if1.false, k.before.before.if2.false, k.before.if3.false) in
-    c.refuses2.ensures
+    omega (
+      arith,
+      e,
+      k.before.before.before.if-end-lt-ENDED.false,
+      k.before.before.if-end-eq-ENDED.false,
+      k.before.if-end-eq-SPENT.false,
+    ) in
+    c.refuses-2.ensures
     ∙ ap refuses c.before.refusal.ensures
     ∙ sym (ap (agreed a.allowance)
     (is-refused a.line a.other a.stopped.at a.allowance a.stopped.ending big
-    (λ q. k.if4.false (e ∙ q))))
+    (λ q. k.if-end-eq-OFF.false (e ∙ q))))
 
-pub agreement-spec : {M : Type 1} → statement M
-agreement-spec =
+pub agreement_spec : {M : Type 1} → statement M
+agreement_spec =
     tie.close (tie.spec
     (search rules) (search rules) (search rules) returns (search rules) returns-2 (search rules) returns-3
     (search rules) returns-4 (search rules) (search rules) returns-5)

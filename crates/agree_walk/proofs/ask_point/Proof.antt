@@ -3,7 +3,6 @@ use mathlib.Core.Path.{◌≡◌, sym, ◌∙◌, ap}
 use mathlib.Core.List.{List}
 use Prim.Native.Nat.{◌<◌}
 use native.Mathlib.Omega.{arith}
-use borrow.Author.Tests.{not-true, not-false}
 use lib.IntN.{ℤ}
 use Rattle.integers.specs.Order.{T_true}
 use Rattle.rules.specs.declared.Line.{Line}
@@ -33,14 +32,14 @@ abbrev z : tie.Start → Point
 z s = point (ps s) s.args.i
 
 -- the point is on the sheet as it stands in the line
-said : (c : tie.After-on-sheet) → c.on-sheet.result ≡ on_sheet (z c.before.before)
-said c = c.on-sheet.ensures ∙ ap (λ (p : Point). on_sheet p) c.before.point_at.ensures
+said : (c : tie.After-on_sheet) → c.on_sheet.result ≡ on_sheet (z c.before.before)
+said c = c.on_sheet.ensures ∙ ap (λ (p : Point). on_sheet p) c.before.point_at-z.ensures
 
-returns : tie.Need-returns
+returns : tie.Need-returns-then-not-on_sheet
 returns c line other =
     let s = c.before.before.before.before in
     let a = s.args in
-    let off = sym (said c.before.before) ∙ not-true _ c.before.if1.true in
+    let off = sym (said c.before.before) ∙ c.before.if-not-on_sheet.true in
     ap (asked line other a.i a.tally.allowance) c.pack.ensures
     ∙ reads-off line other a.i a.tally.allowance a.tally.visits
     ∙ one-point line (ps s) other (theirs s) (table s) a.d a.i a.tally off
@@ -48,7 +47,7 @@ returns c line other =
 ask-requires : tie.Need-ask-requires
 ask-requires c κs =
     let p = c.before.before.before.requires.1 in
-    let on = on-sheet _ (T_true (sym c.before.on-sheet.ensures ∙ not-false _ c.if1.false)) in
+    let on = on-sheet _ (T_true (sym c.before.on_sheet.ensures ∙ c.if-not-on_sheet.false)) in
     ((p.0, p.1, stored-abs p.2 tt), on)
 
 abbrev start : tie.After-ask → tie.Start
@@ -60,19 +59,19 @@ walked : (c : tie.After-ask) (l m : Line)
     ≡ near_walk l (theirs (start c)) (table (start c)) (z (start c)) (start c).args.d (start c).args.tally
 walked c l m =
     let s = start c in
-    let d = stored s.pre.1.2 tt in
-    let p = c.before.before.before.point_at.ensures in
+    let d = stored s.requires.1.2 tt in
+    let p = c.before.before.before.point_at-z.ensures in
     rw (p, d) at (c.ask.ensures l m)
 
-returns-2 : tie.Need-returns-2
+returns-2 : tie.Need-returns
 returns-2 c line other =
     let s = start c in
     let a = s.args in
     let r = c.ask.result in
-    let on = sym (said c.before.before) ∙ not-false _ c.before.if1.false in
+    let on = sym (said c.before.before) ∙ c.before.if-not-on_sheet.false in
     let small : end_in r < bad_second = one_line other a.tally.allowance r (walked c other) in
     heard line other a.i a.tally.allowance r (λ q. omega arith) (walked c other other)
     ∙ one-point line (ps s) other (theirs s) (table s) a.d a.i a.tally on
 
-pub ask-point-spec : {M : Type 1} → statement M
-ask-point-spec = tie.close (tie.spec (search rules) (search rules) (search rules) returns ask-requires returns-2)
+pub ask_point_spec : {M : Type 1} → statement M
+ask_point_spec = tie.close (tie.spec (search rules) (search rules) (search rules) returns ask-requires returns-2)

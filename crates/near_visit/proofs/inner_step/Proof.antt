@@ -27,7 +27,8 @@ returns c =
 abbrev start : tie.Else-not-splits_inside → tie.Start
 start c = c.before.before
 
-was-good : (c : tie.Else-not-splits_inside) → split_fits (start c).args.r (start c).args.first (start c).args.last ≡ true
+was-good : (c : tie.Else-not-splits_inside)
+    → split_fits (start c).args.r (start c).args.first (start c).args.last ≡ true
 was-good c = sym c.before.splits_inside.ensures ∙ c.if-not-splits_inside.false
 
 -- the rule of a split holds: whether the strip is far decides

@@ -83,7 +83,8 @@ module _ (t : ℕ) where
 
         -- what the left half comes to
         left-comes : (counted : Tally) (comes : ℕ)
-            → Walks points table left.row left.first left.last (read_back z).x (read_back z).y s.args.reach counted comes
+            → Walks points table left.row left.first left.last (read_back z).x (read_back z).y s.args.reach counted
+            comes
             → (l m : Line) (f : ℕ) (D : ℤ) → pos s.args.reach ≡ D *ℤ D → (enough : s.args.last ≤ f + s.args.first)
             → says (level l m f D enough) counted comes ≡ below (level l m f D enough) left tt counted
         left-comes counted comes h l m f D squared enough =

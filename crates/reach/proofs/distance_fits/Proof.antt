@@ -17,7 +17,8 @@ returns c =
 returns-2 : tie.Need-returns-else-d-ge0
 returns-2 c =
     let e = to_z-of_z {w = w64} c.before.ranges.d in
-    c.if-d-ge0.false ∙ sym (λ i. (sym (λ j. le_z (pos 0) (e j)) ∙ c.if-d-ge0.false) i && le_z c.before.args.d (pos farthest))
+    c.if-d-ge0.false
+    ∙ sym (λ i. (sym (λ j. le_z (pos 0) (e j)) ∙ c.if-d-ge0.false) i && le_z c.before.args.d (pos farthest))
 
 pub distance_fits_spec : {M : Type 1} → statement M
 distance_fits_spec = tie.close (tie.spec returns returns-2)
