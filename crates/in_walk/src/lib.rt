@@ -43,14 +43,13 @@ fn walk(
             if !on_sheet_at(*points, split) {
                 return bad_row_due(counted, next_row);
             }
-            let allowance = counted.allowance;
             let left = walk(points, table, next_row, first, split, counted, odd, x, y);
             if stopped(left) {
                 return left;
             }
             let right = row + 2 * (split - first);
             let next_odd = odd_in(left);
-            let next = tally_in(allowance, left);
+            let next = tally_in(counted.allowance, left);
             walk(points, table, right, split, last, next, next_odd, x, y)
         }
     }

@@ -21,9 +21,8 @@ use rules::{Checked, Line, Next, Reply, Tally, Word, refuses, says};
 fn at_once(tally: Tally) -> Reply
     ensures { result ≡ yes_or_no tally.allowance (on_visit (next tally) (λ y. over tt y)) }
 {
-    let allowance = tally.allowance;
     let Next::Left(counted) = tally.visit() else {
-        return says(Word::UNDECIDED, allowance);
+        return says(Word::UNDECIDED, tally.allowance);
     };
     says(Word::NO, counted.visits)
 }
@@ -42,9 +41,8 @@ fn from_good_roots(
         (meet_walk points_a.now table_a.now
         points_b.now table_b.now fresh) }
 {
-    let allowance = fresh.allowance;
     let Next::Left(counted) = fresh.visit() else {
-        return says(Word::UNDECIDED, allowance);
+        return says(Word::UNDECIDED, fresh.allowance);
     };
     let does = visit(&points_a, &table_a, &points_b, &table_b, 0);
     if does == FINISHES {
@@ -55,7 +53,7 @@ fn from_good_roots(
     }
     answer(
         open(&points_a, &table_a, &points_b, &table_b, 0, counted),
-        allowance,
+        fresh.allowance,
     )
 }
 

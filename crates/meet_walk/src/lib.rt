@@ -56,13 +56,12 @@ fn halve_a(
         return bad_row_due(counted, next_row);
     }
     let left_rows = pack_rows(next_row, b.row);
-    let allowance = counted.allowance;
     let left = walk(points_a, table_a, points_b, table_b, left_rows, counted);
     if stopped(left) {
         return left;
     }
     let right = a.row + 2 * (split - a.first);
-    let next = tally_in(allowance, left);
+    let next = tally_in(counted.allowance, left);
     if !right_good(*points_a, *table_a, right, split, a.last) {
         return bad_row_due(next, right);
     }
@@ -93,13 +92,12 @@ fn halve_b(
         return bad_second_due(counted, next_row);
     }
     let left_rows = pack_rows(a.row, next_row);
-    let allowance = counted.allowance;
     let left = walk(points_a, table_a, points_b, table_b, left_rows, counted);
     if stopped(left) {
         return left;
     }
     let right = b.row + 2 * (split - b.first);
-    let next = tally_in(allowance, left);
+    let next = tally_in(counted.allowance, left);
     if !right_good(*points_b, *table_b, right, split, b.last) {
         return bad_second_due(next, right);
     }

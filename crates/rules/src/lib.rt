@@ -131,14 +131,14 @@ pub fn refuses(refusal: Refusal) -> Reply
 }
 
 // The tally of visits is a value: each visit takes it and gives the next one back.
-#[derive(Drop)]
+#[derive(Clone, Copy)]
 pub struct Tally {
     pub allowance: u32,
     pub visits: u32,
 }
 
 // The next tally, or that none is left.
-#[derive(Drop)]
+#[derive(Clone, Copy)]
 pub enum Next {
     Left(Tally),
     Spent,
