@@ -24,7 +24,8 @@ module _ (ps t qs t' : List ℤ) (D : ℤ) (allowance : ℕ) where
   walks_reply = agreed allowance (agree_walk ps t qs t' D (fresh allowance))
 
   pub agree-checked : {o p : Option Refusal} {d : Bool}
-      → first_refusal (length_checks LineA ps t) ≡ o → first_refusal (length_checks LineB qs t') ≡ p → distance_fits D ≡ d
+      → first_refusal (length_checks LineA ps t) ≡ o → first_refusal (length_checks LineB qs t') ≡ p
+      → distance_fits D ≡ d
       → or_refused (or_else o (or_else p (distance_refusal D d))) walks_reply ≡ agree_reply ps t qs t' D allowance
   unfolding agree_reply
   agree-checked o p d =
