@@ -7,12 +7,12 @@ returns : tie.Need-returns
 returns c =
     let r = c.before.before.args.reply in
     λ i. record {
-      word = c.before.word-code.ensures i;
+      word = c.before.word_code.ensures i;
       visits = r.visits;
       number = r.number;
       line = c.line_code.ensures i;
       place = r.place;
     }
 
-pub coded-spec : {M : Type 1} → statement M
-coded-spec = tie.close (tie.spec (search rules) (search rules) returns)
+pub coded_spec : {M : Type 1} → statement M
+coded_spec = tie.close (tie.spec (search rules) (search rules) returns)

@@ -11,12 +11,11 @@ use Rattle.kneukelboom_c.proofs.coded_checked.Tie as tie
 came : {b o : Checked} → o ≡ b → coded_checked (checked_refusal b) ≡ coded_checked (checked_refusal o)
 came e = sym (ap (λ (b : Checked). coded_checked (checked_refusal b)) e)
 
-returns-2 : tie.Need-returns-2
+returns-2 : tie.Need-returns-in-Refused
 returns-2 c =
-    let k = c.before.before.before in
-    c.coded.ensures ∙ ap coded c.before.refuses.ensures ∙ came k.checked.given.1
+    c.coded.ensures ∙ ap coded c.before.refuses.ensures ∙ came c.before.before.in-Refused.is
 
-pub coded-checked-spec : {M : Type 1} → statement M
-coded-checked-spec =
+pub coded_checked_spec : {M : Type 1} → statement M
+coded_checked_spec =
     tie.close (tie.spec (search rules) (search rules) (search rules) (search rules)
-    (λ c. came c.enum_told.given.1) returns-2)
+    (λ c. came c.in-Fine.is) returns-2)

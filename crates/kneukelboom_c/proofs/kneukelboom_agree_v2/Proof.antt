@@ -10,5 +10,5 @@ returns c =
     let fits = c.before.before.ranges in
     let e = simp (to_z-of_z {w = w64} fits.distance) at c.before.agree.ensures in cc
 
-pub kneukelboom-agree-v2-spec : {M : Type 1} → statement M
-kneukelboom-agree-v2-spec = tie.close (tie.spec (search rules) (search rules) returns)
+pub kneukelboom_agree_v2_spec : {M : Type 1} → statement M
+kneukelboom_agree_v2_spec = tie.close (tie.spec (search rules) (search rules) returns)

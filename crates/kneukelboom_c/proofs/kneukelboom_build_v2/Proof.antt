@@ -7,7 +7,7 @@ use Rattle.kneukelboom_c.proofs.kneukelboom_build_v2.Tie as tie
 
 returns : tie.Need-returns
 returns c =
-    let said = c.before.before.build.ensures in (c.coded-checked.ensures ∙ ap coded_checked said.0, said.1)
+    let said = c.before.before.build.ensures in (c.coded_checked.ensures ∙ ap coded_checked said.0, said.1)
 
-pub kneukelboom-build-v2-spec : {M : Type 1} → statement M
-kneukelboom-build-v2-spec = tie.close (tie.spec (search rules) (search rules) (search rules) returns)
+pub kneukelboom_build_v2_spec : {M : Type 1} → statement M
+kneukelboom_build_v2_spec = tie.close (tie.spec (search rules) (search rules) (search rules) returns)

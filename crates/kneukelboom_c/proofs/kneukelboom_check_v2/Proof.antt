@@ -6,7 +6,7 @@ use Rattle.kneukelboom_c.proofs.kneukelboom_check_v2.Statement.{statement}
 use Rattle.kneukelboom_c.proofs.kneukelboom_check_v2.Tie as tie
 
 returns : tie.Need-returns
-returns c = c.coded-checked.ensures ∙ ap coded_checked c.before.check.ensures
+returns c = c.coded_checked.ensures ∙ ap coded_checked c.before.check.ensures
 
-pub kneukelboom-check-v2-spec : {M : Type 1} → statement M
-kneukelboom-check-v2-spec = tie.close (tie.spec (search rules) (search rules) returns)
+pub kneukelboom_check_v2_spec : {M : Type 1} → statement M
+kneukelboom_check_v2_spec = tie.close (tie.spec (search rules) (search rules) returns)

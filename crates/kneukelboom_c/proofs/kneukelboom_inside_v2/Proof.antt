@@ -13,5 +13,5 @@ returns c =
     c.coded.ensures ∙ ap coded (simp (to_z-of_z {w = w64} fits.x, to_z-of_z {w = w64} fits.y) at
     c.before.inside.ensures)
 
-pub kneukelboom-inside-v2-spec : {M : Type 1} → statement M
-kneukelboom-inside-v2-spec = tie.close (tie.spec (search rules) (search rules) returns)
+pub kneukelboom_inside_v2_spec : {M : Type 1} → statement M
+kneukelboom_inside_v2_spec = tie.close (tie.spec (search rules) (search rules) returns)

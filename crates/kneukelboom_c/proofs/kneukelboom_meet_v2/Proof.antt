@@ -8,5 +8,5 @@ use Rattle.kneukelboom_c.proofs.kneukelboom_meet_v2.Tie as tie
 returns : tie.Need-returns
 returns c = c.coded.ensures ∙ ap coded c.before.meet.ensures
 
-pub kneukelboom-meet-v2-spec : {M : Type 1} → statement M
-kneukelboom-meet-v2-spec = tie.close (tie.spec (search rules) (search rules) returns)
+pub kneukelboom_meet_v2_spec : {M : Type 1} → statement M
+kneukelboom_meet_v2_spec = tie.close (tie.spec (search rules) (search rules) returns)

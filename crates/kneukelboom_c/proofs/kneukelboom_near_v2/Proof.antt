@@ -15,5 +15,5 @@ returns c =
     (simp (to_z-of_z {w = w64} fits.x, to_z-of_z {w = w64} fits.y, to_z-of_z {w = w64} fits.distance) at
     c.before.near.ensures)
 
-pub kneukelboom-near-v2-spec : {M : Type 1} → statement M
-kneukelboom-near-v2-spec = tie.close (tie.spec (search rules) (search rules) returns)
+pub kneukelboom_near_v2_spec : {M : Type 1} → statement M
+kneukelboom_near_v2_spec = tie.close (tie.spec (search rules) (search rules) returns)

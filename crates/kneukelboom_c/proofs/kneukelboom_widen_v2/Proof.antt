@@ -7,7 +7,7 @@ use Rattle.kneukelboom_c.proofs.kneukelboom_widen_v2.Tie as tie
 
 returns : tie.Need-returns
 returns c =
-    let said = c.before.before.widen.ensures in (c.coded-checked.ensures ∙ ap coded_checked said.0, said.1)
+    let said = c.before.before.widen.ensures in (c.coded_checked.ensures ∙ ap coded_checked said.0, said.1)
 
-pub kneukelboom-widen-v2-spec : {M : Type 1} → statement M
-kneukelboom-widen-v2-spec = tie.close (tie.spec (search rules) (search rules) (search rules) returns)
+pub kneukelboom_widen_v2_spec : {M : Type 1} → statement M
+kneukelboom_widen_v2_spec = tie.close (tie.spec (search rules) (search rules) (search rules) returns)
