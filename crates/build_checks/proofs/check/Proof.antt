@@ -84,6 +84,10 @@ check_spec =
     tie.close (tie.spec
     (search rules) returns (search rules) returns-2 (search rules) returns-3 (search rules) (search rules) returns-4
     (search rules) (search rules) (search rules) returns-5 (search rules) (search rules) (search rules) (search rules)
-    (λ c t n. simp (past-five c.before.before t, n, lt-ltb _ _ c.before.if-room-segments.true,
-    c.refuse-then-room-segments.ensures))
+    (λ c t n. simp (
+      past-five c.before.before t,
+      n,
+      lt-ltb _ _ c.before.if-room-segments.true,
+      c.refuse-then-room-segments.ensures,
+    ))
     (λ c t n. simp (past-five c.before t, n, le-ltb _ _ c.if-room-segments.false)))
