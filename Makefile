@@ -25,11 +25,11 @@ lib: $(ARCHIVE) $(OUT)/libkneukelboom.so $(OUT)/kneukelboom.pc
 program: $(PROGRAM)
 
 $(ARCHIVE): $(SOURCES)
-	rt lib kneukelboom_c
+	cd crates/kneukelboom_c && rt lib
 	@mkdir -p $(@D) && cp crates/kneukelboom_c/out/$(@F) $@
 
 $(PROGRAM): $(SOURCES)
-	rt run kneukelboom </dev/null
+	cd crates/kneukelboom && rt run </dev/null
 	@mkdir -p $(@D) && cp crates/kneukelboom/out/$(@F) $@
 
 # what the archive exports, which is the seven calls, and no other library

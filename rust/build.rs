@@ -1,8 +1,8 @@
 //! Finds the proved archive, `libkneukelboom_c.a`, and has it linked.
 //!
 //! It stands in `../target/staticlib`. Where it is missing, or not newer than every source that it is made of,
-//! `rt lib kneukelboom_c` is run, which proves the library and writes the archive anew. Where that cannot be, the build
-//! ends: an old archive is never linked. With KNEUKELBOOM_LIB_DIR the archive of that folder is taken as it is;
+//! `rt lib` is run in `crates/kneukelboom_c`, which proves the library and writes the archive anew. Where that cannot
+//! be, the build ends: an old archive is never linked. With KNEUKELBOOM_LIB_DIR the archive of that folder is taken as it is;
 //! the version in its symbols keeps one of another interface from linking.
 
 use std::path::{Path, PathBuf};
@@ -11,9 +11,9 @@ use std::time::SystemTime;
 use std::{env, fs, io};
 
 const ARCHIVE: &str = "libkneukelboom_c.a";
-const PROVE: [&str; 2] = ["lib", "kneukelboom_c"];
-/// Where `rt` leaves what it made.
-const LEFT: &str = "crates/kneukelboom_c/out";
+/// The crate whose archive it is, and the word for `rt` there, which leaves what it makes in a folder `out`.
+const EXPORTS: &str = "crates/kneukelboom_c";
+const PROVE: &str = "lib";
 
 fn main() {
     println!("cargo:rerun-if-env-changed=KNEUKELBOOM_LIB_DIR");
@@ -62,9 +62,10 @@ pub fn made(root: &Path, rt: &str) -> Result<PathBuf, String> {
     let Some(why) = stale(root, &archive)? else {
         return Ok(archive);
     };
-    let command = format!("`{rt} {}` in {}", PROVE.join(" "), root.display());
-    match Command::new(rt).args(PROVE).current_dir(root).status() {
-        Ok(status) if status.success() && kept(&root.join(LEFT).join(ARCHIVE), &archive) => {
+    let exports = root.join(EXPORTS);
+    let command = format!("`{rt} {PROVE}` in {}", exports.display());
+    match Command::new(rt).arg(PROVE).current_dir(&exports).status() {
+        Ok(status) if status.success() && kept(&exports.join("out").join(ARCHIVE), &archive) => {
             Ok(archive)
         }
         Ok(_) => Err(format!("{why}. {command} did not make it.")),

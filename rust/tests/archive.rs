@@ -1,5 +1,5 @@
 //! An archive that is older than a source is never linked: what `build.rs` does, in a repository of its own, where
-//! `sh` stands in for `rt`: `sh lib kneukelboom_c` does as the file `lib` says.
+//! `sh` stands in for `rt`: `sh lib` in `crates/kneukelboom_c` does as the file `lib` there says.
 
 #[allow(dead_code)]
 #[path = "../build.rs"]
@@ -55,7 +55,7 @@ impl Repository {
 
     /// What is made where `rt` does as the script says, and where it is not there.
     fn made(&self, script: Option<&str>) -> Result<PathBuf, String> {
-        self.write("lib", script.unwrap_or(""));
+        self.write("crates/kneukelboom_c/lib", script.unwrap_or(""));
         build::made(&self.root, script.map_or("no-such-program", |_| "sh"))
     }
 }
@@ -67,9 +67,8 @@ impl Drop for Repository {
 }
 
 /// Writes the archive, and its words to the file `said`.
-const PROVES: Option<&str> = Some(
-    "echo $0 $@ >said && mkdir -p crates/kneukelboom_c/out && : >crates/kneukelboom_c/out/libkneukelboom_c.a",
-);
+const PROVES: Option<&str> =
+    Some("echo $0 $@ >../../said && mkdir -p out && : >out/libkneukelboom_c.a");
 const REFUSES: Option<&str> = Some("exit 1");
 const IS_NOT_THERE: Option<&str> = None;
 
@@ -81,7 +80,7 @@ fn a_missing_archive_is_made() {
     assert!(repository.made(Some("exit 0")).is_err());
     assert_eq!(repository.made(PROVES), Ok(repository.path(ARCHIVE)));
     let said = fs::read_to_string(repository.path("said")).unwrap();
-    assert_eq!(said, "lib kneukelboom_c\n");
+    assert_eq!(said, "lib\n");
 }
 
 #[test]
@@ -104,7 +103,8 @@ fn an_archive_not_newer_than_a_source_is_made_again_or_not_linked() {
         for rt in [IS_NOT_THERE, REFUSES] {
             let why = repository.made(rt).unwrap_err();
             assert!(why.contains(&named), "{why}");
-            assert!(why.contains("lib kneukelboom_c"), "{why}");
+            assert!(why.contains(" lib` in "), "{why}");
+            assert!(why.contains("crates/kneukelboom_c"), "{why}");
         }
         assert!(repository.made(PROVES).is_ok());
         assert!(repository.path("said").exists());
