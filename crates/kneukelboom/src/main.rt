@@ -3,15 +3,18 @@
 // alone.
 #![tactic(auto)]
 
+ghost use Rattle.std.specs.Prelude.{◌≡◌, length};
+ghost use Rattle.reading.specs.After.{chunk_bytes};
+
 use chunks::opened;
-use libc::{STDERR_FILENO, STDIN_FILENO, STDOUT_FILENO};
 use limits::{CHUNK_BYTES, KEPT_BYTES, STORE_NUMBERS, TABLE_NUMBERS, WRITTEN_BYTES};
 use reading::{Next, pass};
+use std::io::{Print, Read};
 
 // The bytes read are counted in 64 bits: past this count, those of one chunk more could have no number.
 const LAST: u64 = u64::MAX - CHUNK_BYTES as u64;
 
-fn main() {
+fn main(rt: HostRuntime) {
     let mut a = [0i64; STORE_NUMBERS];
     let mut b = [0i64; STORE_NUMBERS];
     let mut table_a = [0i64; TABLE_NUMBERS];
@@ -22,7 +25,7 @@ fn main() {
     let mut state = opened();
     let mut so_far: u64 = 0;
     while so_far <= LAST {
-        let got = libc::read(STDIN_FILENO, &mut chunk);
+        let got = read(&rt, &mut chunk);
         let past = pass(
             so_far,
             state,
@@ -36,8 +39,8 @@ fn main() {
             &mut out,
         );
         let wrote = past.wrote;
-        if !io::write_all(STDOUT_FILENO, &out[..wrote]) {
-            tell_unwritten();
+        if rt.write_all(&out[..wrote]).is_err() {
+            tell_unwritten(&rt);
             return;
         }
         let next = past.next;
@@ -47,7 +50,7 @@ fn main() {
                 return;
             }
             Next::Failed => {
-                tell_unread();
+                tell_unread(&rt);
                 return;
             }
         }
@@ -55,24 +58,26 @@ fn main() {
         state = carried;
         so_far = past.bytes;
     }
-    tell_endless();
+    tell_endless(&rt);
+}
+
+// What a read of standard input answered: the number of bytes that came, and below 0 that it failed.
+fn read(rt: &HostRuntime, chunk: &mut [u8; CHUNK_BYTES]) -> isize {
+    match rt.stdin().read(chunk) {
+        Ok(n) => n as isize,
+        Err(_) => -1,
+    }
 }
 
 // What is told where the program stops before the end of the input.
-fn tell_unwritten() {
-    io::write_all(
-        STDERR_FILENO,
-        b"kneukelboom: standard output cannot be written\n",
-    );
+fn tell_unwritten(rt: &HostRuntime) {
+    let _ = rt.stderr().write_all(b"kneukelboom: standard output cannot be written\n");
 }
 
-fn tell_unread() {
-    io::write_all(
-        STDERR_FILENO,
-        b"kneukelboom: standard input cannot be read\n",
-    );
+fn tell_unread(rt: &HostRuntime) {
+    let _ = rt.stderr().write_all(b"kneukelboom: standard input cannot be read\n");
 }
 
-fn tell_endless() {
-    io::write_all(STDERR_FILENO, b"kneukelboom: standard input does not end\n");
+fn tell_endless(rt: &HostRuntime) {
+    let _ = rt.stderr().write_all(b"kneukelboom: standard input does not end\n");
 }

@@ -69,7 +69,7 @@ module _ {s u : State} (ready : Ready s) (same : Same u s) (held : InRoom u) {r 
 
 -- ---------------- any record but LINE and PT is answered, and leaves the stores as they are
 -- they, by their places among the records
-abbrev answered : List ℕ
+abbrev pub answered : List ℕ
 answered = 2 ∷ 3 ∷ 4 ∷ 5 ∷ 6 ∷ []
 
 pub reply-said : (d : Desk) (n : Numbers) (k : TablesBuilt) (q : Record) → OneOf answered (tag_of the_type q)

@@ -11,22 +11,7 @@ use Rattle.rules.specs.Sheet.{points_of}
 use Rattle.words.specs.declared.Record.{Record}
 use Rattle.words.specs.declared.Record.TheVariants.{Start, Pt, Near, In, Meet, Agree, NotUnderstood}
 use Rattle.words.specs.Records.{record_of}
-use Rattle.desk.specs.Desk.{
-  Store,
-  room,
-  Desk,
-  store_of,
-  put_store,
-  count_text,
-  Taken,
-  quiet,
-  saying,
-  refused_at,
-  add_point,
-  take_point,
-  take_record,
-  take_text,
-}
+use Rattle.desk.specs.Desk.{Store, room, Desk, store_of, put_store, count_text, quiet, saying, refused_at, add_point, take_point, take_record, take_text}
 use Rattle.ready.specs.declared.Needed.{Needed}
 use Rattle.ready.specs.declared.Needed.TheVariants.{NoTable, TableA, BothTables}
 use Rattle.ready.specs.declared.TablesBuilt.{TablesBuilt}
