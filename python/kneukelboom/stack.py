@@ -14,7 +14,7 @@ from typing import Callable, List, TypeVar
 Given = TypeVar("Given")
 
 #: The bytes of stack that a call takes for each level, as kneukelboom.h has them; to widen has none ..
-A_LEVEL = {"build": 96, "widen": 0, "check": 96, "near": 192, "inside": 192, "agree": 192, "meet": 144}
+A_LEVEL = {"build": 96, "widen": 0, "check": 96, "near": 208, "inside": 208, "agree": 208, "meet": 176}
 #: .. and the bytes of the call itself.
 ON_TOP = 256
 

@@ -20,12 +20,12 @@ pub const fn build(levels: usize) -> usize {
 
 /// Of a walk down one tree, in `near`, `inside` and `agree`.
 pub const fn walk(levels: usize) -> usize {
-    256 + 192 * levels
+    256 + 208 * levels
 }
 
 /// Of `meet`, for the levels of both trees together.
 pub const fn meet(levels: usize) -> usize {
-    256 + 144 * levels
+    256 + 176 * levels
 }
 
 /// What is always left free: for the frames of this crate, a guard page, a signal's frame.

@@ -79,7 +79,7 @@ lagrange s u z a b w =
     size_e (way_e p q (c_at_e s u z) (c_at_e s u a) (c_at_e s u b)) (way_e p q (t_at_e s u z) (t_at_e s u a) (t_at_e s u b))
     := size²E u :* size²E (away_e p q z a b)) tt s u z a b w.p w.q
 
--- ---------------- k²·(g² + h²) ≤ i² + j² = U-as-F, F ≤ k²·D² and D²-as-U < g² + h² do not hold together
+-- ---------------- k²·(g² + h²) ≤ i² + j² = U·F, F ≤ k²·D² and D²·U < g² + h² do not hold together
 clash : (g h k i j U F D : ℤ) → (k *ℤ g *ℤ (k *ℤ g)) ≤ℤ (i *ℤ i) → (k *ℤ h *ℤ (k *ℤ h)) ≤ℤ (j *ℤ j)
     → i *ℤ i +ℤ j *ℤ j ≡ U *ℤ F → pos 0 ≤ℤ U → F ≤ℤ (k *ℤ k *ℤ (D *ℤ D)) → pos 0 <ℤ k
     → (D *ℤ D *ℤ U) <ℤ (g *ℤ g +ℤ h *ℤ h) → ⊥
