@@ -207,11 +207,11 @@ fn rattle(text: &str) -> Read {
     let exports = text
         .matches("extern \"C\"")
         .count()
-        .max(text.matches("#[no_mangle]").count());
-    for after in text.split("#[no_mangle]").skip(1) {
+        .max(text.matches("#[unsafe(no_mangle)]").count());
+    for after in text.split("#[unsafe(no_mangle)]").skip(1) {
         let marked = after.trim_start().strip_prefix("pub extern \"C\" fn ");
         let (mut function, rest) = function(
-            marked.ok_or("#[no_mangle] without pub extern \"C\" fn")?,
+            marked.ok_or("#[unsafe(no_mangle)] without pub extern \"C\" fn")?,
             &name,
         )?;
         let own = rest.split("fn ").next().unwrap_or("");
@@ -223,7 +223,7 @@ fn rattle(text: &str) -> Read {
         functions.push(function);
     }
     if functions.len() != exports {
-        return Err("an extern \"C\" fn is not marked #[no_mangle]".to_string());
+        return Err("an extern \"C\" fn is not marked #[unsafe(no_mangle)]".to_string());
     }
     interface(reply, functions)
 }
@@ -474,7 +474,7 @@ pub struct Reply {
     pub place: u64,
 }
 
-#[no_mangle]
+#[unsafe(no_mangle)]
 pub extern "C" fn kneukelboom_build_v2(points: &[i64], table: &mut [i64]) -> Reply
     ensures { λ r. ⌜ r ≡ said (now (points .entry)) ⌝ }
 {
@@ -487,25 +487,25 @@ fn told(points: &[i64]) -> Reply
     Reply { word: 0, visits: 0, number: 0, line: 0, place: 0 }
 }
 
-#[no_mangle]
+#[unsafe(no_mangle)]
 pub extern "C" fn kneukelboom_widen_v2(old: &[i32], new: &mut [i64]) -> Reply {
     told(old, new)
 }
 
-#[no_mangle]
+#[unsafe(no_mangle)]
 pub extern "C" fn kneukelboom_check_v2(points: &[i64], table: &[i64]) -> Reply { told(points) }
 
-#[no_mangle]
+#[unsafe(no_mangle)]
 pub extern "C" fn kneukelboom_near_v2(
     points: &[i64], table: &[i64], x: i64, y: i64, distance: i64, allowance: u32) -> Reply {
     told(points, table)
 }
 
-#[no_mangle]
+#[unsafe(no_mangle)]
 pub extern "C" fn kneukelboom_inside_v2(
     points: &[i64], table: &[i64], x: i64, y: i64, allowance: u32) -> Reply { told(points) }
 
-#[no_mangle]
+#[unsafe(no_mangle)]
 pub extern "C" fn kneukelboom_meet_v2(
     points_a: &[i64],
     table_a: &[i64],
@@ -516,7 +516,7 @@ pub extern "C" fn kneukelboom_meet_v2(
     told(points_a)
 }
 
-#[no_mangle]
+#[unsafe(no_mangle)]
 pub extern "C" fn kneukelboom_agree_v2(
     points_a: &[i64],
     table_a: &[i64],
@@ -574,8 +574,11 @@ fn altered_rattle_is_found_out() {
             ("kneukelboom_meet_v2", "kneukelboom_meets_v2"),
             ("kneukelboom_meet_v2", "kneukelboom_meet_v3"),
             ("kneukelboom_meet_v2", "kneukelboom_meet"),
-            ("#[no_mangle]\n", ""),
-            ("#[no_mangle]\npub extern", "#[no_mangle]\nextern"),
+            ("#[unsafe(no_mangle)]\n", ""),
+            (
+                "#[unsafe(no_mangle)]\npub extern",
+                "#[unsafe(no_mangle)]\nextern",
+            ),
             ("    ensures {", "    requires { ⌜ 1 ≤ 2 ⌝ }\n    ensures {"),
             (
                 "    pub visits: u32,\n    pub number: u32,",
