@@ -3,9 +3,6 @@
 // alone.
 #![tactic(auto)]
 
-ghost use Rattle.std.specs.Prelude.{◌≡◌, length};
-ghost use Rattle.reading.specs.After.{chunk_bytes};
-
 use chunks::opened;
 use limits::{CHUNK_BYTES, KEPT_BYTES, STORE_NUMBERS, TABLE_NUMBERS, WRITTEN_BYTES};
 use reading::{Next, pass};
@@ -71,13 +68,19 @@ fn read(rt: &HostRuntime, chunk: &mut [u8; CHUNK_BYTES]) -> isize {
 
 // What is told where the program stops before the end of the input.
 fn tell_unwritten(rt: &HostRuntime) {
-    let _ = rt.stderr().write_all(b"kneukelboom: standard output cannot be written\n");
+    let _ = rt
+        .stderr()
+        .write_all(b"kneukelboom: standard output cannot be written\n");
 }
 
 fn tell_unread(rt: &HostRuntime) {
-    let _ = rt.stderr().write_all(b"kneukelboom: standard input cannot be read\n");
+    let _ = rt
+        .stderr()
+        .write_all(b"kneukelboom: standard input cannot be read\n");
 }
 
 fn tell_endless(rt: &HostRuntime) {
-    let _ = rt.stderr().write_all(b"kneukelboom: standard input does not end\n");
+    let _ = rt
+        .stderr()
+        .write_all(b"kneukelboom: standard input does not end\n");
 }
