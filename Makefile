@@ -37,8 +37,9 @@ $(OUT)/$(SONAME): $(ARCHIVE)
 	@mkdir -p $(OUT)
 	$(CC) $(LDFLAGS) -shared -nostdlib -Wl,-soname,$(SONAME),-z,defs,--whole-archive $(ARCHIVE) -o $@
 
+# a copy, for `rt ci` takes no links in the repository
 $(OUT)/libkneukelboom.so: $(OUT)/$(SONAME)
-	ln -sf $(SONAME) $@
+	cp $< $@
 
 # written each time, for it says where the rest is installed
 $(OUT)/kneukelboom.pc: $(HEADER) always
