@@ -12,17 +12,6 @@ use borrow.Author.Rules.{rules}
 use Rattle.agree_walk.proofs.agreement.Statement.{statement}
 use Rattle.agree_walk.proofs.agreement.Tie as tie
 
-returns : tie.Need-returns-then-end-lt-ENDED
-returns c =
-    let t = c.before in
-    let a = t.before.before.before.args in
-    let e = t.before.before.end_in-end.ensures in
-    let small : end_in a.stopped.ending < 2 = omega (arith, e, t.if-end-lt-ENDED.true) in
-    c.disagrees.ensures
-    ∙ ap (disagrees a.line a.stopped.at) t.before.visits_in-visits.ensures
-    ∙ sym (ap (agreed a.allowance)
-    (is-not-near a.line a.other a.stopped.at a.allowance a.stopped.ending small))
-
 returns-2 : tie.Need-returns-then-end-eq-ENDED
 returns-2 c =
     let t = c.before in
@@ -61,13 +50,7 @@ returns-5 c =
     let asked = k.before.before.before.before.before in
     let e = asked.end_in-end.ensures in
     let big : bad_row ≤ end_in a.stopped.ending =
-    omega (
-      arith,
-      e,
-      k.before.before.before.if-end-lt-ENDED.false,
-      k.before.before.if-end-eq-ENDED.false,
-      k.before.if-end-eq-SPENT.false,
-    ) in
+    omega (arith, e, k.before.before.if-end-eq-ENDED.false, k.before.if-end-eq-SPENT.false) in
     c.refuses-2.ensures
     ∙ ap refuses c.before.refusal.ensures
     ∙ sym (ap (agreed a.allowance)
@@ -77,5 +60,15 @@ returns-5 c =
 pub agreement_spec : {M : Type 1} → statement M
 agreement_spec =
     tie.close (tie.spec
-    (search rules) (search rules) (search rules) returns (search rules) returns-2 (search rules) returns-3
+    (search rules) (search rules) (search rules)
+    (λ c.
+      let t = c.before in
+      let a = t.before.before.before.args in
+      let e = t.before.before.end_in-end.ensures in
+      let small : end_in a.stopped.ending < 2 = omega (arith, e) in
+      c.disagrees.ensures
+      ∙ ap (disagrees a.line a.stopped.at) t.before.visits_in-visits.ensures
+      ∙ sym (ap (agreed a.allowance)
+      (is-not-near a.line a.other a.stopped.at a.allowance a.stopped.ending small)))
+    (search rules) returns-2 (search rules) returns-3
     (search rules) returns-4 (search rules) (search rules) returns-5)
