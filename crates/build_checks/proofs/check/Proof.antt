@@ -3,23 +3,33 @@ use mathlib.Core.Path.{◌≡◌, sym, ◌∙◌}
 use mathlib.Core.Bool.{false}
 use mathlib.Core.List.{List, [], ◌∷◌}
 use Prim.Native.Nat.{◌%◌}
+use native.Mathlib.Omega.{arith}
 use borrow.Author.Tests.{eq-eqb, ne_eqb, lt-ltb, le-ltb}
 use lib.Dec.{ltb, eqb}
 use lib.IntN.{ℤ}
 use lib.ListN.{length}
+use Rattle.rules.specs.declared.Checked.{Checked}
+use Rattle.rules.specs.declared.Checked.TheVariants.{Refused}
 use Rattle.rules.specs.declared.Line.TheVariants.{LineA}
 use Rattle.rules.specs.Sheet.{points_of, fewest, most}
-use Rattle.rules.specs.Reply.{first_refusal}
+use Rattle.rules.specs.Reply.{checked_refusal, first_refusal}
 use Rattle.rules.specs.Rows.{table_check}
 use Rattle.rules.specs.Build.{sheet_check, neighbour_check, build_refusal}
 use borrow.Author.Rules.{rules}
 use Rattle.build_checks.proofs.check.Statement.{statement}
 use Rattle.build_checks.proofs.check.Tie as tie
 
--- what is known past the first, the second and the third test
-even : (c : tie.Else-points-eq1) → eqb (length c.before.args.points.now % 2) 1 ≡ false
-even c = ne_eqb _ _ c.if-points-eq1.false
+-- the first test, of any points: `omega` reads what the code found
+odd : (ps t : List ℤ) (r : Checked) → length ps % 2 ≡ 1
+    → r ≡ Refused (record { number = 1; line = LineA; place = 0; visits = 0 })
+    → checked_refusal r ≡ build_refusal ps t
+unfolding build_refusal
+odd ps t r h told = simp (eq-eqb _ _ h, told)
 
+even : (ps : List ℤ) → (length ps % 2 ≡ 1 → ⊥) → eqb (length ps % 2) 1 ≡ false
+even ps h = ne_eqb _ _ h
+
+-- what is known past the second and the third test
 enough : (c : tie.Else-count-lt-FEWEST) → ltb (points_of c.before.before.args.points.now) fewest ≡ false
 enough c = le-ltb _ _ c.if-count-lt-FEWEST.false
 
@@ -34,7 +44,7 @@ past_three : (c : tie.Else-count-gt-MOST) (t : List ℤ)
     → build_refusal (points c) t
     ≡ first_refusal (sheet_check (points c) ∷ neighbour_check (points c) ∷ table_check LineA (points c) t ∷ [])
 unfolding build_refusal
-past_three c t = simp (even c.before.before, enough c.before, not_more c)
+past_three c t = simp (even (points c) (λ e. omega arith), enough c.before, not_more c)
 
 past-four : (c : tie.Else-off-count) (t : List ℤ)
     → let ps = points c.before.before in
@@ -51,21 +61,18 @@ past-five c t =
     past-four (on_sheet c) t
     ∙ simp (sym c.before.lowest_equal-equal.ensures, le-ltb _ _ c.if-equal-segments.false)
 
-returns : tie.Need-returns-then-points-eq1
-unfolding build_refusal
-returns c t n = simp (eq-eqb _ _ c.before.if-points-eq1.true, c.refuse.ensures)
-
 returns-2 : tie.Need-returns-then-count-lt-FEWEST
 unfolding build_refusal
 returns-2 c t n =
     let less = lt-ltb _ _ c.before.if-count-lt-FEWEST.true in
-    simp (even c.before.before, less, c.refuse-then-count-lt-FEWEST.ensures)
+    simp (even c.before.before.before.args.points.now (λ e. omega arith), less, c.refuse-then-count-lt-FEWEST.ensures)
 
 returns-3 : tie.Need-returns-then-count-gt-MOST
 unfolding build_refusal
 returns-3 c t n =
     let p = c.before.before in
-    simp (even p.before, enough p, lt-ltb _ _ c.before.if-count-gt-MOST.true, c.refuse-then-count-gt-MOST.ensures)
+    let whole = even p.before.before.args.points.now (λ e. omega arith) in
+    simp (whole, enough p, lt-ltb _ _ c.before.if-count-gt-MOST.true, c.refuse-then-count-gt-MOST.ensures)
 
 returns-4 : tie.Need-returns-then-off-count
 returns-4 c t n =
@@ -82,8 +89,9 @@ returns-5 c t n =
 pub check_spec : {M : Type 1} → statement M
 check_spec =
     tie.close (tie.spec
-    (search rules) returns (search rules) returns-2 (search rules) returns-3 (search rules) (search rules) returns-4
-    (search rules) (search rules) (search rules) returns-5 (search rules) (search rules) (search rules) (search rules)
+    (search rules) (λ c t n. odd _ t _ (omega arith) c.refuse.ensures) (search rules) returns-2
+    (search rules) returns-3 (search rules) (search rules) returns-4 (search rules) (search rules)
+    (search rules) returns-5 (search rules) (search rules) (search rules) (search rules)
     (λ c t n. simp (
       past-five c.before.before t,
       n,

@@ -121,14 +121,13 @@ module _ (t : ℕ) where
   inside : (c : Split) → Inner (begun (fine c)).args.first (mid c) (begun (fine c)).args.last
   inside c =
       let a = (begun (fine c)).args in
-      let more = (own_done (fine c)).before.if-last-first.false in
-      subst (λ (m : ℕ). Inner a.first m a.last) (sym (mid-told c)) ((row-good (fine c)).split_between more)
+      subst (λ (m : ℕ). Inner a.first m a.last) (sym (mid-told c)) ((row-good (fine c)).split_between (omega arith))
 
   split-of-requires : lts.Need-split_of-split-requires (calls t) (here t) node.Post
   split-of-requires c κs =
       let k = c.before.before in
       subst (λ (r : Row). pos 0 ≤ℤ r.split) (sym c.row_at.ensures)
-      ((row-good k).split-above (own_done k).before.if-last-first.false)
+      ((row-good k).split-above (omega arith))
 
   left_in : (c : Split)
       → Stands (points (begun (fine c))) (table (begun (fine c))) (left_of (at (begun (fine c))) (mid c))
@@ -153,30 +152,21 @@ module _ (t : ℕ) where
       ≡ or_else (half (begun (fine c)) (mid c) f left_of) (half (begun (fine c)) (mid c) f right_of)
   level c f h =
       let s = begun (fine c) in
-      let more = (own_done (fine c)).before.if-last-first.false in
-      inner-level (read_from (table s)) (points s) (at s) f (stands s).fits.some-segment h more
+      inner-level (read_from (table s)) (points s) (at s) f (stands s).fits.some-segment h (omega arith)
       ∙ (λ d. or_else (own-none (fine c) d)
       (or_else (half s (sym (mid-told c) d) f left_of) (half s (sym (mid-told c) d) f right_of)))
 
-  -- ---------------- the needs that are not trivial, in the order of the code
-  returns : lts.Need-returns-then-last-first (calls t) (here t) node.Post
-  returns c f h =
-      let s = c.before.before in
-      let leaf = c.before.if-last-first.true in
-      c.check_row.ensures
-      ∙ sym (leaf-level (read_from (table s)) (points s) (at s) f (stands s).fits.some-segment h leaf)
-
+  -- ---------------- the needs that are not trivial, in the order of the code, past a leaf, whose own row is all
   returns-2 : lts.Need-returns-then-own-ne0 (calls t) (here t) node.Post
   returns-2 c f h =
       let k = c.before in
       let s = start k in
       let own = k.check_row-own in
-      let more = k.before.if-last-first.false in
       let m = split_in (row_at (table s) s.args.row) in
       let later = or_else (half s m f left_of) (half s m f right_of) in
       found-stops own.result later (omega arith)
       ∙ (λ d. or_else (own.ensures d) later)
-      ∙ sym (inner-level (read_from (table s)) (points s) (at s) f (stands s).fits.some-segment h more)
+      ∙ sym (inner-level (read_from (table s)) (points s) (at s) f (stands s).fits.some-segment h (omega arith))
 
   returns-3 : lts.Need-returns-then-left-ne0 (calls t) (here t) node.Post
   returns-3 c f h =
@@ -220,7 +210,10 @@ module _ (t : ℕ) where
 pub +check_node_spec : {M : Type 1} → statement M
 +check_node_spec = close μ λ t. lts.spec (calls t) (here t) node.Post
     (λ c. let h = stands t c in omega (arith, h.points-in, h.fine.not_more, h.fits.some-segment))
-    (λ c κs. c.before.requires.1) (returns t) (λ c κs. c.before.requires.1) (returns-2 t)
+    (λ c κs. c.before.requires.1)
+    (λ c f h. let s = c.before.before in c.check_row.ensures
+    ∙ sym (leaf-level (read_from (table t s)) (points t s) (at t s) f (stands t s).fits.some-segment h (omega arith)))
+    (λ c κs. c.before.requires.1) (returns-2 t)
     (λ c κs. let h = stands t (begun t c.before) in omega (arith, fits-row h.fits, h.fine.table-long))
     (split-of-requires t) (λ c. omega (arith, row_small (left_in t c))) (check_node-left-requires t) (returns-3 t)
     (λ c. omega (arith, (right-row t c).0)) (λ c. let r = right-row t c in omega (arith, r.0, r.1, r.2))
