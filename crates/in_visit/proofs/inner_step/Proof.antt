@@ -1,6 +1,6 @@
 -- `inner_step` makes the tests of the definition in its order.
 use mathlib.Core.Path.{◌≡◌, sym, ◌∙◌, ap}
-use mathlib.Core.Bool.{Bool, true}
+use mathlib.Core.Bool.{Bool, true, false}
 use Rattle.rules.specs.Plane.{direction}
 use Rattle.rules.specs.Plain.{crosses}
 use Rattle.rules.specs.Questions.{split_in, clear_of}
@@ -33,7 +33,7 @@ returns c =
 was-good : (c : tie.Else-not-splits_inside) → fits c.before.before ≡ true
 was-good c = sym c.before.splits_inside.ensures ∙ c.if-not-splits_inside.false
 
--- the rule of a split holds: whether z is clear of the node decides
+-- the rule of a split holds: whether z is clear of the node decides, and `search` finds the answer where it is known
 decided : (c : tie.After-clear_of) {clear : Bool} → c.clear_of.result ≡ clear
     → let s = c.before.before.before in said_by s true clear ≡ said_by s (fits s) (is_clear s)
 decided c clear = let good = was-good c.before in cc
@@ -47,5 +47,5 @@ pub inner_step_spec : {M : Type 1} → statement M
 inner_step_spec =
     tie.close (tie.spec
     (λ c κs. search rules) returns (λ c κs. search rules) (λ c κs. search rules)
-    (λ c. ap Pass c.crosses.ensures ∙ decided c.before.before c.before.if-clear_of.true) split_of-requires
-    (λ c. ap Halve c.split_of.ensures ∙ decided c.before.before c.before.if-clear_of.false))
+    (λ c. ap Pass c.crosses.ensures ∙ decided c.before.before {clear = true} (search)) split_of-requires
+    (λ c. ap Halve c.split_of.ensures ∙ decided c.before.before {clear = false} (search)))

@@ -1,6 +1,6 @@
 -- `inner_step` makes the tests of the definition in its order.
 use mathlib.Core.Path.{◌≡◌, sym, ◌∙◌, ap, subst}
-use mathlib.Core.Bool.{Bool, true}
+use mathlib.Core.Bool.{Bool, true, false}
 use Prim.Native.Nat.{ℕ}
 use lib.IntN.{ℤ, pos, ◌*ℤ◌}
 use Rattle.rules.specs.Plane.{direction}
@@ -31,7 +31,7 @@ was-good : (c : tie.Else-not-splits_inside)
     → split_fits (start c).args.r (start c).args.first (start c).args.last ≡ true
 was-good c = sym c.before.splits_inside.ensures ∙ c.if-not-splits_inside.false
 
--- the rule of a split holds: whether the strip is far decides
+-- the rule of a split holds: whether the strip is far decides, and `search` finds the answer where it is known
 decided : (c : tie.After-far_from) {far : Bool} → c.far_from.result ≡ far
     → let a = (start c.before).args in
     (D : ℤ) → pos a.reach ≡ D *ℤ D
@@ -50,7 +50,7 @@ returns-3 c =
     let k = c.before.before.before in
     let a = (start k).args in
     let s = c.split_of.ensures in (
-      λ D e. ap Halve s ∙ decided c.before.before c.before.if-far_from.false D e,
+      λ D e. ap Halve s ∙ decided c.before.before {far = false} (search) D e,
       subst (λ (i : ℕ). Inner a.first i a.last) (sym s)
           (split_between a.r a.first a.last (was-good k)),
     )
@@ -58,5 +58,5 @@ returns-3 c =
 pub inner_step_spec : {M : Type 1} → statement M
 inner_step_spec =
     tie.close (tie.spec
-    (λ c κs. search rules) returns (λ c κs. search rules) (λ c. (decided c.before c.if-far_from.true, tt))
+    (λ c κs. search rules) returns (λ c κs. search rules) (λ c. (decided c.before {far = true} (search), tt))
     split_of-requires returns-3)
