@@ -28,7 +28,7 @@ returns c =
     let left = c.feed-fed.new in
     -- the answer is read back as it came
     let came : to_z w64 (of_z w64 s.got) ≡ s.got = to_z-of_z {w = w64} c.ranges.got in
-    let not-below : lt_z s.got (pos 0) ≡ false = simp came at c.if-got-lt0.false in
+    let not-below : lt_z s.got (pos 0) ≡ false = cc in
     let many = c.count-n.ensures.value ∙ ap (λ (z : ℤ). clamp_len z (length s.chunk.now)) came in
     answer-goes {l = slices s.a.now s.b.now s.table_a.now s.table_b.now s.text.now} {chunk = s.chunk.now} s.got
     (slices left.a left.b left.table_a left.table_b left.text) not-below
