@@ -62,13 +62,13 @@ agreement_spec =
     tie.close (tie.spec
     (search rules) (search rules) (search rules)
     (λ c.
-      let t = c.before in
-      let a = t.before.before.before.args in
-      let e = t.before.before.end_in-end.ensures in
-      let small : end_in a.stopped.ending < 2 = omega (arith, e) in
-      c.disagrees.ensures
-      ∙ ap (disagrees a.line a.stopped.at) t.before.visits_in-visits.ensures
-      ∙ sym (ap (agreed a.allowance)
-      (is-not-near a.line a.other a.stopped.at a.allowance a.stopped.ending small)))
+    let t = c.before in
+    let a = t.before.before.before.args in
+    let e = t.before.before.end_in-end.ensures in
+    let small : end_in a.stopped.ending < 2 = omega (arith, e) in
+    c.disagrees.ensures
+    ∙ ap (disagrees a.line a.stopped.at) t.before.visits_in-visits.ensures
+    ∙ sym (ap (agreed a.allowance)
+    (is-not-near a.line a.other a.stopped.at a.allowance a.stopped.ending small)))
     (search rules) returns-2 (search rules) returns-3
     (search rules) returns-4 (search rules) (search rules) returns-5)
