@@ -98,7 +98,7 @@ extern "C" {
  * The bytes of stack that a call takes at its deepest, for lines of so many segments: n for build and check, 0 for
  * widen; n for near and inside, the greater of n and m for agree; n + m for meet. A tree, built or from elsewhere, is
  * that deep only where each of its splits lies next to an end. Not proved: examples/stack.c measures it, on lines of
- * 4,097 points (build 262,272 bytes, check 327,736, near 786,496, inside 852,008, agree 786,640, meet 1,441,824), and
+ * 4,097 points (build 262,272 bytes, check 327,736, near 786,513, inside 852,032, agree 786,673, meet 1,310,752), and
  * fails where that is more than is said here.
  */
 #define KNEUKELBOOM_STACK_BUILD(segments) (256 + 96 * (segments))

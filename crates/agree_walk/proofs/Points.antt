@@ -1,4 +1,5 @@
 -- Points asked one after another: how the asking of one reads, one point, then the others where it is near.
+use Rattle.std.specs.Prelude.{Option, Some, None}
 use mathlib.Core.Path.{◌≡◌, refl, sym, ◌∙◌, ap}
 use mathlib.Core.Bool.{Bool, true, false, cond}
 use mathlib.Core.List.{List}
@@ -9,8 +10,6 @@ use lib.Dec.{ltb, eqb}
 use lib.IntN.{ℤ}
 use Rattle.rules.specs.declared.Line.{Line}
 use Rattle.rules.specs.declared.Line.TheVariants.{LineA, LineB}
-use Rattle.rules.specs.declared.Next.{Next}
-use Rattle.rules.specs.declared.Next.TheVariants.{Left, Spent}
 use Rattle.rules.specs.declared.Tally.{Tally}
 use Rattle.rules.specs.Sheet.{point, on_sheet}
 use Rattle.rules.specs.Walk.{Walked, ended, over, spent, refused}
@@ -90,9 +89,9 @@ module _ (line other : Line) (i allowance : ℕ) where
       ∙ ap (λ k. faulted (off_sheet line i k)) (visits-in v OFF (omega arith))
 
 -- the walk of a line whose root has a bad row ends there, or for want of a visit
-pub root-end : (x : Next) → (SPENT ≤ end_in (due x bad_row)) × (end_in (due x bad_row) ≤ bad_row)
-root-end (Left v) = let e = end-in v.visits bad_row (omega arith) in (omega (arith, e), omega (arith, e))
-root-end Spent = (omega arith, omega arith)
+pub root-end : (x : Option Tally) → (SPENT ≤ end_in (due x bad_row)) × (end_in (due x bad_row) ≤ bad_row)
+root-end (Some v) = let e = end-in v.visits bad_row (omega arith) in (omega (arith, e), omega (arith, e))
+root-end None = (omega arith, omega arith)
 
 -- a walk that says the same whatever the second line is called met no bad row of a second line
 pub one_line : (l : Line) (allowance r : ℕ) {w : Walked Nothing} → ((m : Line) → walked_in tt tt l m allowance r ≡ w)
@@ -150,7 +149,7 @@ module _ (l : Line) (ps : List ℤ) (m : Line) (qs t : List ℤ) (D : ℤ) where
       go false w = refl
 
   -- of the points up to count, point i and then those from i + 1 on
-  pub next-point : (count i : ℕ) (y : Tally) → i < count
+  next-point : (count i : ℕ) (y : Tally) → i < count
       → asks i (count - i) y ≡ on_all_near (asks i 1 y) (asks (i + 1) (count - (i + 1)))
   next-point count i y h =
       (λ j. asks i (more j) y) ∙ point-then i (count - (i + 1)) y
@@ -161,6 +160,12 @@ module _ (l : Line) (ps : List ℤ) (m : Line) (qs t : List ℤ) (D : ℤ) where
 
       along : suc i ≡ i + 1
       along = omega arith
+
+  -- point i is asked: with those after it, it comes to what they all come to
+  pub point-asked : (count i : ℕ) (y : Tally) {a all : Asked} → i < count → a ≡ asks i 1 y → asks i (count - i) y ≡ all
+      → on_all_near a (asks (i + 1) (count - (i + 1))) ≡ all
+  point-asked count i y h is e =
+      ap (λ (x : Asked). on_all_near x (asks (i + 1) (count - (i + 1)))) is ∙ sym (next-point count i y h) ∙ e
 
   -- the first point is not near: it is what they all come to
   pub first_stops : (allowance count r : ℕ) (y : Tally) → 1 ≤ count → (end_in r ≡ 2 → ⊥)

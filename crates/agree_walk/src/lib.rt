@@ -11,7 +11,8 @@ ghost use Rattle.agree_walk.specs.Asking.{asked, Asks, AsksAll, AsksAllOff};
 
 use rules::{Line, Refusal, Reply, Tally, Word, disagrees, refuses, says};
 
-// How the asking of a point off the sheet ends: above the number of every bad row.
+// How the asking of a point off the sheet ends: above the number of every bad row, beside which it stands in `ending`'s
+// number.
 const OFF: u32 = ending::PAST;
 
 // Where the asking of a line's points stopped, and how.
@@ -41,16 +42,14 @@ pub fn ask_all(points: &[i64], theirs: &&[i64], table: &&[i64], d: i64, tally: T
 {
     let count = points.len() / 2;
     let mut ending = ending::pack(tally.visits, ending::ENDED);
-    let mut i = 0;
-    while i < count {
+    for i in 0..count {
         let rest = ending::tally_in(tally.allowance, ending);
         ending = ask_point(points, i, theirs, table, d, rest);
         if ending::end_in(ending) != ending::ENDED {
             return Stopped { at: i, ending };
         }
-        i += 1;
     }
-    Stopped { at: i, ending }
+    Stopped { at: count, ending }
 }
 
 // Against a line that begins or ends off the sheet: the first point is asked, and the root's row that it meets is bad.

@@ -1,5 +1,6 @@
 -- What needs a number of visits: `go` takes a tally; with that many visits left it comes to `end` of the tally after
 -- them, with fewer it stops. Two such, one after the other, need the sum.
+use Rattle.std.specs.Prelude.{Some, None}
 use mathlib.Core.Path.{◌≡◌, refl, sym, ◌∙◌, ap}
 use Prim.Native.Nat.{ℕ, ◌+◌, ◌≤◌, ◌<◌}
 use native.Mathlib.Nat.{add_assoc, add-zero}
@@ -8,7 +9,6 @@ use native.Mathlib.Omega.{arith}
 use Rattle.integers.specs.Laws.{cond_ind}
 use lib.Dec.{ltb, ltb→lt, nltb→le}
 use Rattle.rules.specs.declared.Tally.{Tally}
-use Rattle.rules.specs.declared.Next.TheVariants.{Left, Spent}
 use Rattle.rules.specs.Walk.{next}
 
 -- the tally after k more visits
@@ -28,13 +28,13 @@ at_once stop go = record {
 }
 
 -- one visit
-pub next-needs : Needs Spent next Left 1
+pub next-needs : Needs None next Some 1
 next-needs = record {
   given = λ y h.
-      cond_ind (ltb y.visits y.allowance) (Left (after 1 y)) Spent (λ m. m ≡ Left (after 1 y)) (λ t. refl)
+      cond_ind (ltb y.visits y.allowance) (Some (after 1 y)) None (λ m. m ≡ Some (after 1 y)) (λ t. refl)
       (λ t. let l : y.allowance ≤ y.visits = nltb→le _ _ t in absurd (omega arith));
   short = λ y h l.
-      cond_ind (ltb y.visits y.allowance) (Left (after 1 y)) Spent (λ m. m ≡ Spent)
+      cond_ind (ltb y.visits y.allowance) (Some (after 1 y)) None (λ m. m ≡ None)
       (λ t. let m : y.visits < y.allowance = ltb→lt _ _ t in absurd (omega arith)) (λ t. refl);
 }
 

@@ -10,7 +10,7 @@ ghost use Rattle.ready.specs.Left.{built_of};
 ghost use Rattle.answers.specs.Asked.{needed_by, answer_to, Replies};
 
 use desk::Held;
-use ready::{Needed, Readied, TablesBuilt, ready_for, refused, rows, stored};
+use ready::{Needed, Prepared, StoredLine, TablesBuilt, ready_for, refused, rows};
 use rules::{Line, Point, Reply};
 use words::Record;
 
@@ -26,13 +26,9 @@ fn needed_by(record: Record) -> Needed
     ensures { result ≡ needed_by «record» }
 {
     match record {
-        Record::Near { .. } => Needed::TableA,
-        Record::In { .. } => Needed::TableA,
-        Record::Meet(_) => Needed::BothTables,
-        Record::Agree { .. } => Needed::BothTables,
-        Record::Start(_) => Needed::NoTable,
-        Record::Pt(_, _) => Needed::NoTable,
-        Record::NotUnderstood => Needed::NoTable,
+        Record::Near { .. } | Record::In { .. } => Needed::TableA,
+        Record::Meet(_) | Record::Agree { .. } => Needed::BothTables,
+        Record::Start(_) | Record::Pt(_, _) | Record::NotUnderstood => Needed::NoTable,
     }
 }
 
@@ -74,7 +70,7 @@ fn ask(
             distance,
             allowance,
         ),
-        _ => refused(12, Line::NoLine, place, 0),
+        _ => refused(12, Line::NoLine, place),
     }
 }
 
@@ -95,28 +91,18 @@ pub fn reply(
         (store_in held_b points_b.now) (built_of held_a held_b)
         table_a.old table_b.old result table_a.new table_b.new }
 {
-    let prepared = ready_for(
-        needed_by(record),
-        held_a,
-        points_a,
-        table_a,
-        held_b,
-        points_b,
-        table_b,
-        place,
-    );
-    let readied = prepared.readied;
-    let built = prepared.built;
-    if let Readied::Told(told) = readied {
-        return Replied { reply: told, built };
-    }
-    let reply = ask(
-        record,
-        place,
-        stored(held_a, points_a),
-        table_a,
-        stored(held_b, points_b),
-        table_b,
-    );
+    let a = StoredLine {
+        held: held_a,
+        numbers: points_a,
+    };
+    let b = StoredLine {
+        held: held_b,
+        numbers: points_b,
+    };
+    let Prepared { readied, built } = ready_for(needed_by(record), a, table_a, b, table_b, place);
+    let reply = match readied {
+        Ok(()) => ask(record, place, a.points(), table_a, b.points(), table_b),
+        Err(told) => told,
+    };
     Replied { reply, built }
 }

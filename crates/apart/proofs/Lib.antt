@@ -1,3 +1,2 @@
 -- Laws that the proofs of `apart` share.
-pub mod Stored
 pub mod Corners

@@ -4,13 +4,13 @@ ghost use Rattle.rules.specs.Plain.{ranges_overlap, boxes_overlap, one_side, sha
 ghost use Rattle.limits.specs.Small.{OnSheet};
 ghost use Rattle.apart.specs.Aside.{both_aside};
 
-use line::{c_at, greater, lesser, step};
+use line::{c_at, step};
 use rules::Point;
 
 fn ranges_overlap(a: i64, b: i64, c: i64, d: i64) -> bool
     ensures { result ≡ ranges_overlap a b c d }
 {
-    lesser(a, b) <= greater(c, d) && lesser(c, d) <= greater(a, b)
+    a.min(b) <= c.max(d) && c.min(d) <= a.max(b)
 }
 
 fn boxes_overlap(a: Point, b: Point, c: Point, d: Point) -> bool
@@ -23,10 +23,7 @@ fn boxes_overlap(a: Point, b: Point, c: Point, d: Point) -> bool
 fn one_side(one: i64, other: i64) -> bool
     ensures { result ≡ one_side one other }
 {
-    if 0 < one {
-        return 0 < other;
-    }
-    one < 0 && other < 0
+    (0 < one && 0 < other) || (one < 0 && other < 0)
 }
 
 // Whether c and d lie on one side of the line through a and b.
@@ -42,11 +39,5 @@ pub fn share(a: Point, b: Point, c: Point, d: Point) -> bool
     requires { OnSheet a × OnSheet b × OnSheet c × OnSheet d }
     ensures { result ≡ share a b c d }
 {
-    if !boxes_overlap(a, b, c, d) {
-        return false;
-    }
-    if both_aside(a, b, c, d) {
-        return false;
-    }
-    !both_aside(c, d, a, b)
+    boxes_overlap(a, b, c, d) && !both_aside(a, b, c, d) && !both_aside(c, d, a, b)
 }

@@ -6,23 +6,17 @@ ghost use Rattle.limits.specs.Small.{OnSheet, Small};
 ghost use Rattle.apart.specs.Placed.{BoxOnSheet, Placed};
 ghost use Rattle.apart.specs.Turned.{turned};
 
-use line::{direction, greater, lesser};
+use line::direction;
 use rules::{Point, Row};
 
 pub fn boxes_apart(row_a: Row, row_b: Row) -> bool
     requires { BoxOnSheet row_a × BoxOnSheet row_b }
     ensures { result ≡ boxes_apart row_a row_b }
 {
-    if row_a.xmax < row_b.xmin {
-        return true;
-    }
-    if row_b.xmax < row_a.xmin {
-        return true;
-    }
-    if row_a.ymax < row_b.ymin {
-        return true;
-    }
-    row_b.ymax < row_a.ymin
+    row_a.xmax < row_b.xmin
+        || row_b.xmax < row_a.xmin
+        || row_a.ymax < row_b.ymin
+        || row_b.ymax < row_a.ymin
 }
 
 // u turned to the left by a right angle: c along u is t along it.
@@ -43,10 +37,7 @@ fn beyond(v: Point, s: Point, other: Row, lo: i64, hi: i64) -> bool
     let east = v.x * (other.xmax - s.x);
     let south = v.y * (other.ymin - s.y);
     let north = v.y * (other.ymax - s.y);
-    if greater(west, east) + greater(south, north) < lo {
-        return true;
-    }
-    hi < lesser(west, east) + lesser(south, north)
+    west.max(east) + south.max(north) < lo || hi < west.min(east) + south.min(north)
 }
 
 // Whether c, or t, of a node says that the other node's box is beyond its strip.
@@ -55,10 +46,7 @@ fn strip_apart(row: Row, s: Point, u: Point, other: Row) -> bool
     ensures { result ≡ strip_apart row s u other }
 {
     let v = turned(u);
-    if beyond(v, s, other, row.cmin, row.cmax) {
-        return true;
-    }
-    beyond(u, s, other, row.tmin, row.tmax)
+    beyond(v, s, other, row.cmin, row.cmax) || beyond(u, s, other, row.tmin, row.tmax)
 }
 
 // Whether the nodes are dismissed, by their rows and the points that they begin and end with. A heading is found where
@@ -75,11 +63,7 @@ pub fn apart(
     ensures { result ≡ apart row_a start_a (direction start_a end_a)
         row_b start_b (direction start_b end_b) }
 {
-    if boxes_apart(row_a, row_b) {
-        return true;
-    }
-    if strip_apart(row_a, start_a, direction(start_a, end_a), row_b) {
-        return true;
-    }
-    strip_apart(row_b, start_b, direction(start_b, end_b), row_a)
+    boxes_apart(row_a, row_b)
+        || strip_apart(row_a, start_a, direction(start_a, end_a), row_b)
+        || strip_apart(row_b, start_b, direction(start_b, end_b), row_a)
 }

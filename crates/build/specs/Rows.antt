@@ -1,7 +1,7 @@
 -- The row of a node, and its numbers in order.
 use Rattle.std.specs.Prelude.{cond, List, ℕ, ℤ, pos}
 use Rattle.rules.specs.declared.Row.{Row}
-use Rattle.rules.specs.Tree.{split_of, numbers, measured, no_split, is_leaf}
+use Rattle.rules.specs.Tree.{split_of, measured, no_split, is_leaf}
 
 -- the split s as the row of the node from first to last has it
 abbrev pub split_number : ℕ → ℕ → ℕ → ℤ
@@ -10,20 +10,3 @@ split_number first last s = cond (is_leaf first last) no_split (pos s)
 -- the row of the node that covers the points first to last
 abbrev pub node_row : List ℤ → ℕ → ℕ → Row
 node_row ps first last = measured ps first last (split_number first last (split_of ps first last))
-
--- the numbers of a row, one by one
-abbrev pub in_order : ℤ → ℤ → ℤ → ℤ → ℤ → ℤ → ℤ → ℤ → ℤ → ℤ → ℤ → List ℤ
-in_order first last split cmin cmax tmin tmax xmin xmax ymin ymax =
-    numbers (record {
-      first = first;
-      last = last;
-      split = split;
-      cmin = cmin;
-      cmax = cmax;
-      tmin = tmin;
-      tmax = tmax;
-      xmin = xmin;
-      xmax = xmax;
-      ymin = ymin;
-      ymax = ymax;
-    })

@@ -9,17 +9,14 @@ ghost use Rattle.rules.specs.Build.{build_refusal, built_table};
 ghost use Rattle.rules.specs.Reply.{checked_refusal};
 
 use build_checks::check;
-use rules::Checked;
+use rules::Refusal;
 
-pub fn build(points: &[i64], table: &mut [i64]) -> Checked
+pub fn build(points: &[i64], table: &mut [i64]) -> Result<(), Refusal>
     ensures result_value { checked_refusal result ≡ build_refusal points.now table.old }
     ensures table_after { table.new ≡ built_table points.now table.old }
 {
-    let checked = check(points, table.len());
-    if let Checked::Refused(refusal) = checked {
-        return Checked::Refused(refusal);
-    }
+    check(points, table.len())?;
     let last = points.len() / 2 - 1;
     rows::build_node(&points, 0, last, table);
-    Checked::Fine
+    Ok(())
 }

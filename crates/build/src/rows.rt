@@ -3,41 +3,28 @@ ghost use Rattle.std.specs.Prelude.{◌≡◌, ◌++◌, ℕ, ◌+◌, ◌*◌, 
 ghost use Rattle.rules.specs.Sheet.{most};
 ghost use Rattle.rules.specs.Tree.{split_of, width, numbers, rows_of, row_count};
 ghost use Rattle.run.specs.Run.{AllOnSheet};
-ghost use Rattle.build.specs.Rows.{split_number, node_row, in_order};
+ghost use Rattle.build.specs.Rows.{split_number, node_row};
 
 use limits::{WIDTH, column};
+use rules::Row;
 use run::measure;
 
 // Writes the numbers of a row at the front of the table.
-fn put_numbers(
-    table: &mut [i64],
-    first: i64,
-    last: i64,
-    split: i64,
-    cmin: i64,
-    cmax: i64,
-    tmin: i64,
-    tmax: i64,
-    xmin: i64,
-    xmax: i64,
-    ymin: i64,
-    ymax: i64,
-)
+fn put_numbers(table: &mut [i64], row: Row)
     requires { width ≤ length table.old }
-    ensures { table.new
-        ≡ in_order first last split cmin cmax tmin tmax xmin xmax ymin ymax ++ drop width table.old }
+    ensures { table.new ≡ numbers row ++ drop width table.old }
 {
-    table[column::FIRST] = first;
-    table[column::LAST] = last;
-    table[column::SPLIT] = split;
-    table[column::CMIN] = cmin;
-    table[column::CMAX] = cmax;
-    table[column::TMIN] = tmin;
-    table[column::TMAX] = tmax;
-    table[column::XMIN] = xmin;
-    table[column::XMAX] = xmax;
-    table[column::YMIN] = ymin;
-    table[column::YMAX] = ymax;
+    table[column::FIRST] = row.first;
+    table[column::LAST] = row.last;
+    table[column::SPLIT] = row.split;
+    table[column::CMIN] = row.cmin;
+    table[column::CMAX] = row.cmax;
+    table[column::TMIN] = row.tmin;
+    table[column::TMAX] = row.tmax;
+    table[column::XMIN] = row.xmin;
+    table[column::XMAX] = row.xmax;
+    table[column::YMIN] = row.ymin;
+    table[column::YMAX] = row.ymax;
 }
 
 // The split as a row has it: -1 for a leaf.
@@ -64,20 +51,20 @@ fn put_row(points: &[i64], first: usize, last: usize, table: &mut [i64]) -> usiz
     let to = 2 * last + 2;
     let m = measure(&points[from..to]);
     let split = first + m.top.split;
-    put_numbers(
-        table,
-        first as i64,
-        last as i64,
-        split_number(first, last, split),
-        m.c.lo,
-        m.c.hi,
-        m.t.lo,
-        m.t.hi,
-        m.x.lo,
-        m.x.hi,
-        m.y.lo,
-        m.y.hi,
-    );
+    let row = Row {
+        first: first as i64,
+        last: last as i64,
+        split: split_number(first, last, split),
+        cmin: m.c.lo,
+        cmax: m.c.hi,
+        tmin: m.t.lo,
+        tmax: m.t.hi,
+        xmin: m.x.lo,
+        xmax: m.x.hi,
+        ymin: m.y.lo,
+        ymax: m.y.hi,
+    };
+    put_numbers(table, row);
     split
 }
 

@@ -1,81 +1,62 @@
 // The refusals of building and of checking a table, 1 to 6 in this order.
 #![tactic(auto)]
 
-ghost use Rattle.std.specs.Prelude.{◌≡◌, List, ◌+◌, ◌*◌, ◌≤◌, ℤ, length};
+ghost use Rattle.std.specs.Prelude.{◌≡◌, List, ◌+◌, ◌*◌, ◌≤◌, ◌<◌, ℤ, length, MatchOption};
 ghost use Rattle.rules.specs.Build.{lowest, off_sheet, equal_next, build_refusal};
 ghost use Rattle.rules.specs.Reply.{checked_refusal};
 
-use limits::{FEWEST, MOST, WIDTH};
-use line::{on_sheet_at, point_at, same_point};
-use rules::{Checked, Line, Refusal};
+use limits::WIDTH;
+use line::{check_points, early, on_sheet_at, point_at};
+use rules::{Line, Refusal};
 
-// The lowest point off the sheet, or count where there is none.
-fn lowest_off(points: &[i64], count: usize) -> usize
+// The lowest point off the sheet.
+fn lowest_off(points: &[i64], count: usize) -> Option<usize>
     requires { 2 * count ≤ length points.now }
-    ensures { result ≡ lowest (off_sheet points.now) 0 count }
+    ensures { let p = lowest (off_sheet points.now) 0 count in
+        MatchOption result (p ≡ count) (λ i. (i < count) × (p ≡ i)) }
 {
-    let mut i: usize = 0;
-    while i < count {
-        if !on_sheet_at(points, i) {
-            return i;
-        }
-        i += 1;
-    }
-    i
+    (0..count).find(|&i| !on_sheet_at(points, i))
 }
 
-// The lowest point that equals the next, or segments where there is none.
-fn lowest_equal(points: &[i64], segments: usize) -> usize
+// Whether point i of a line equals the next.
+fn equals_next(points: &[i64], i: usize) -> bool
+    requires { 2 * i + 3 < length points.now }
+    ensures { result ≡ equal_next points.now i }
+{
+    point_at(points, i) == point_at(points, i + 1)
+}
+
+// The lowest point that equals the next.
+fn lowest_equal(points: &[i64], segments: usize) -> Option<usize>
     requires { 2 * segments + 2 ≤ length points.now }
-    ensures { result ≡ lowest (equal_next points.now) 0 segments }
+    ensures { let p = lowest (equal_next points.now) 0 segments in
+        MatchOption result (p ≡ segments) (λ i. (i < segments) × (p ≡ i)) }
 {
-    let mut i: usize = 0;
-    while i < segments {
-        if same_point(point_at(points, i), point_at(points, i + 1)) {
-            return i;
-        }
-        i += 1;
-    }
-    i
-}
-
-// A refusal of line A, before any visit.
-pub fn refuse(number: u32, place: usize) -> Checked
-    ensures { result ≡ Checked.Refused (record { number = number; line = Line.LineA; place = place; visits = 0 }) }
-{
-    Checked::Refused(Refusal {
-        number,
-        line: Line::LineA,
-        place,
-        visits: 0,
-    })
+    (0..segments).find(|&i| equals_next(points, i))
 }
 
 // The first refusal, for a table of so many numbers.
-pub fn check(points: &[i64], room: usize) -> Checked
+#[tactic(auto, unfolding(rules::specs::Build::build_refusal))]
+pub fn check(points: &[i64], room: usize) -> Result<(), Refusal>
     ensures { (t : List ℤ) → length t ≡ room → checked_refusal result ≡ build_refusal points.now t }
 {
-    if points.len() % 2 == 1 {
-        return refuse(1, 0);
-    }
+    check_points(Line::LineA, points)?;
     let count = points.len() / 2;
-    if count < FEWEST {
-        return refuse(2, 0);
-    }
-    if MOST < count {
-        return refuse(3, 0);
-    }
-    let off = lowest_off(points, count);
-    if off < count {
-        return refuse(4, off);
+    if let Some(place) = lowest_off(points, count) {
+        return Err(Refusal {
+            place,
+            ..early(4, Line::LineA)
+        });
     }
     let segments = count - 1;
-    let equal = lowest_equal(points, segments);
-    if equal < segments {
-        return refuse(5, equal);
+    if let Some(place) = lowest_equal(points, segments) {
+        return Err(Refusal {
+            place,
+            ..early(5, Line::LineA)
+        });
     }
     if room < WIDTH * (2 * segments - 1) {
-        return refuse(6, 0);
+        return Err(early(6, Line::LineA));
     }
-    Checked::Fine
+    Ok(())
 }

@@ -2,12 +2,12 @@
 use mathlib.Core.Path.{◌≡◌, refl, sym, ◌∙◌, ap, subst}
 use mathlib.Core.Bool.{Bool, true, false, cond}
 use mathlib.Core.List.{List, [], ◌∷◌, append-nil}
-use mathlib.Core.Option.{Option, none, some}
 use Prim.Native.Nat.{ℕ, ◌≤◌}
 use native.Mathlib.Omega.{arith}
 use borrow.Author.Tests.{eq-eqb, ne_eqb}
 use lib.Dec.{eqb}
 use lib.ListN.{length, take}
+use Rattle.std.specs.Prelude.{Option, None, Some}
 use Rattle.rules.specs.declared.Reply.{Reply}
 use Rattle.words.specs.Fields.{line_feed}
 use Rattle.print.specs.Printed.{widest}
@@ -21,13 +21,12 @@ use Rattle.desk.proofs.Chunks.{carried, printing, carry-byte, print-byte}
 use Rattle.ready.specs.declared.TablesBuilt.{TablesBuilt}
 use Rattle.store.specs.declared.State.{State}
 use Rattle.store.specs.declared.Outcome.{Outcome}
-use Rattle.store.specs.States.{kept_left, with_pending, heard, Keeps}
+use Rattle.store.specs.States.{kept_left, with_pending, Keeps}
 use Rattle.store.proofs.Texts.{pending-bytes}
-use Rattle.records.specs.Left.{Numbers, Slices, text_left, byte_left, chunk_left}
+use Rattle.records.specs.Left.{Slices, text_left, byte_left, chunk_left}
 use Rattle.records.specs.Built.{built_in, text_built, byte_built, chunk_built}
 use Rattle.records.specs.Carried.{desk_of, Bounds}
 use Rattle.records.specs.Takes.{TakesText}
-use Rattle.byte.specs.declared.Fed.{Fed}
 use Rattle.byte.specs.Feeds.{carry_of, Feeds}
 
 module _ (c : Carry) (b : ℕ) where
@@ -59,8 +58,8 @@ module _ (c : Carry) (b : ℕ) where
 
   -- A byte prints one line at most.
   said_fits : (r : Option Reply) (ordinal : ℕ) → length (said_bytes r ordinal) ≤ widest
-  said_fits none ordinal = omega arith
-  said_fits (some r) ordinal = printed-fits ordinal r
+  said_fits None ordinal = omega arith
+  said_fits (Some r) ordinal = printed-fits ordinal r
 
   pub one-fits : length (print_chunk c (b ∷ [])) ≤ widest
   one-fits = rw (print-one refl) (go (eqb b line_feed))
@@ -93,26 +92,19 @@ module _ {s : State} (l : Slices) (bounds : Bounds s) {byte : ℕ} (out : List �
       }
 
   -- A line feed ends the text line of the pending bytes, and its outcome is printed.
-  pub byte-ends : {t : Outcome} (n : Numbers) {out' : List ℕ} {next : ℕ} →
-      byte ≡ line_feed → TakesText s (carry_of s l).pending l.numbers t n →
-      Put out at (said_bytes (heard t.speech) t.state.printed) out' next →
-      Feeds s l (byte ∷ []) out at (record { state = t.state; wrote = next }) (record { numbers = n; text = l.text })
-      out'
-  byte-ends n feed (taken, left, built) put =
+  pub byte-ends : {t : Outcome} (after : Slices) {out' : List ℕ} {next : ℕ} →
+      byte ≡ line_feed → TakesText s (carry_of s l).pending l.numbers t after.numbers → after.text ≡ l.text →
+      Put out at (said_bytes t.said t.state.printed) out' next →
+      Feeds s l (byte ∷ []) out at (record { state = t.state; wrote = next }) after out'
+  byte-ends after feed (taken, left, built) same put =
       let c = carry_of s l in
       let e = eq-eqb byte line_feed feed in
       record {
-        carried = (λ i. record { desk = (taken.taken i).desk; pending = take (taken.pending i) l.text })
+        carried = (λ i. record { desk = (taken.taken i).desk; pending = take (taken.pending i) (same i) })
             ∙ sym (carry-one c byte e);
-        left = (λ i. record { numbers = left i; text = l.text }) ∙ sym (left_one c byte l e);
+        left = (λ i. record { numbers = left i; text = same i }) ∙ sym (left_one c byte l e);
         built = built ∙ sym (built-one c byte l (built_in s) e);
         printed = put_same (ap bytes_of taken.taken ∙ sym (print-one c byte e)) put;
         bounds = taken.bounds;
         read = omega arith;
       }
-
--- What a line feed comes to is what the byte comes to, where the byte is one.
-pub fed-byte : {s : State} (l after : Slices) {byte : ℕ} {before out : List ℕ} {at : ℕ} {r : Fed} →
-    byte ≡ line_feed → Feeds s l (line_feed ∷ []) before at r after out → Feeds s l (byte ∷ []) before at r after out
-fed-byte {s} l after {before = before} {out = out} {at = at} {r = r} e =
-    subst (λ (byte : ℕ). Feeds s l (byte ∷ []) before at r after out) (sym e)

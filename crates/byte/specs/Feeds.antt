@@ -6,12 +6,19 @@ use Rattle.store.specs.declared.State.{State}
 use Rattle.records.specs.Left.{Slices, chunk_left}
 use Rattle.records.specs.Built.{built_in, chunk_built}
 use Rattle.records.specs.Carried.{desk_of, Bounds}
-use Rattle.byte.specs.declared.Fed.{Fed}
 
 -- the desk, with the bytes that are kept of the text line that has not ended
 abbrev pub carry_of : State → Slices → Carry
 carry_of s l =
     record { desk = desk_of s l.numbers.stores.a l.numbers.stores.b; pending = take s.pending l.text }
+
+-- ---- the state past bytes, and up to where the lent slice is written
+pub record Fed : Type 0 where
+  pub state : State
+  pub wrote : ℕ
+
+abbrev pub fed : State → ℕ → Fed
+fed s n = record { state = s; wrote = n }
 
 -- ---- what bytes come to: what is carried, left in the slices, built and printed is the definition's
 module _ (s : State) (lent : Slices) where

@@ -27,8 +27,9 @@ unfolding found_fault
 found-told k h = simp (ne_eqb k 0 (omega arith))
 
 -- what is found stops the check
-pub found-stops : (k : ℕ) (later : Option Refusal) → 0 < k → found_fault k ≡ or_else (found_fault k) later
-found-stops k later h = found-told k h ∙ sym (λ d. or_else (found-told k h d) later)
+pub found-stops : (k : ℕ) {own : Option Refusal} (later : Option Refusal) → 0 < k → found_fault k ≡ own
+    → found_fault k ≡ or_else own later
+found-stops k later h e = found-told k h ∙ sym (λ d. or_else ((sym e ∙ found-told k h) d) later)
 
 -- ---------------- one level
 

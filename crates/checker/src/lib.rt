@@ -3,23 +3,25 @@
 #![tactic(auto)]
 
 ghost use Rattle.std.specs.Prelude.{◌≡◌, ◌&&◌, ℕ, ◌+◌, ◌≤◌, ◌<◌};
+ghost use Rattle.std.proofs.Math.Option.{some};
 ghost use Rattle.std.specs.Int.Signed.{le_z};
+ghost use Rattle.rules.specs.declared.Line.TheVariants.{LineA};
+ghost use Rattle.rules.specs.declared.Refusal.{Refusal};
 ghost use Rattle.rules.specs.Plane.{step, size², c_at, t_at};
 ghost use Rattle.rules.specs.Sheet.{segments_of};
 ghost use Rattle.rules.specs.Tree.{row_at, most_rows};
 ghost use Rattle.rules.specs.Reply.{checked_refusal};
 ghost use Rattle.rules.specs.Build.{strip_holds, box_holds, row_holds};
-ghost use Rattle.rules.specs.Check.{fault, read_from, row_fault, fault_from, check_refusal};
+ghost use Rattle.rules.specs.Check.{read_from, row_fault, fault_from, check_refusal};
 ghost use Rattle.limits.specs.Small.{OnSheet, Small};
 ghost use Rattle.visits.specs.Nodes.{HoldsStart};
 ghost use Rattle.row.specs.Stands.{Stands, node_at};
 ghost use Rattle.run.specs.Run.{AllOnSheet};
 ghost use Rattle.checker.specs.Found.{past, found_fault};
 
-use build_checks::refuse;
-use line::{c_at, direction, holds, point_at, size2, step, t_at};
+use line::{c_at, direction, early, holds, point_at, size2, step, t_at};
 use row::{good_between, row_at, split_of};
-use rules::{Checked, Point, Row};
+use rules::{Line, Point, Refusal, Row};
 
 // Past the number of every refusal.
 const PAST: usize = 32;
@@ -58,9 +60,7 @@ fn holds_run(points: &[i64], r: Row, first: usize, last: usize) -> bool
         return false;
     }
     let u = direction(s, e);
-    let mut i = first;
-    while i + 1 < last {
-        i += 1;
+    for i in first + 1..last {
         if !holds_point(r, s, u, point_at(points, i)) {
             return false;
         }
@@ -68,10 +68,13 @@ fn holds_run(points: &[i64], r: Row, first: usize, last: usize) -> bool
     true
 }
 
-// A fault as one number: it comes back in a register, where an enum would come back through memory at each level.
+// A fault as one number. A Result, with `?` at each level, was tried: it comes back through memory, and the right half
+// keeps a frame of its own. So a check took some 4 ns a segment more, and 128 bytes of stack a level, where the C
+// header says 96.
 fn found(number: usize, row: usize) -> usize
     requires { (0 < number) × (number < past) × (row < most_rows) }
-    ensures { (first last : ℕ) → found_fault result ≡ fault number (node_at row first last) }
+    ensures { found_fault result
+        ≡ some (record { number = number; line = LineA; place = row; visits = 0 }) }
 {
     PAST * row + number
 }
@@ -115,16 +118,17 @@ fn check_node(points: &&[i64], table: &&[i64], row: usize, first: usize, last: u
     check_node(points, table, row + 2 * (split - first), split, last)
 }
 
-pub fn check(points: &[i64], table: &[i64]) -> Checked
+pub fn check(points: &[i64], table: &[i64]) -> Result<(), Refusal>
     ensures { checked_refusal result ≡ check_refusal points.now table.now }
 {
-    if let Checked::Refused(refusal) = build_checks::check(points, table.len()) {
-        return Checked::Refused(refusal);
-    }
+    build_checks::check(points, table.len())?;
     let last = points.len() / 2 - 1;
     let at = check_node(&points, &table, 0, 0, last);
     if at == 0 {
-        return Checked::Fine;
+        return Ok(());
     }
-    refuse((at % PAST) as u32, at / PAST)
+    Err(Refusal {
+        place: at / PAST,
+        ..early((at % PAST) as u32, Line::LineA)
+    })
 }

@@ -2,23 +2,21 @@
 -- byte.
 use mathlib.Core.Path.{◌≡◌, refl, sym, ◌∙◌, ap, subst}
 use mathlib.Core.List.{List, [], ◌∷◌, ◌++◌}
-use Prim.Native.Nat.{ℕ, ◌+◌, ◌*◌, ◌^◌, ◌≤◌, ◌<◌}
+use Prim.Native.Nat.{ℕ, ◌+◌, ◌*◌, ◌≤◌, ◌<◌}
 use native.Mathlib.Numerals.{add-one}
 use native.Mathlib.Omega.{arith}
 use lib.ListN.{length, take, get_or, length-append}
-use lib.Seq.{length-take-le, take_all, take-suc}
+use lib.Seq.{take-suc}
 use Rattle.print.specs.Printed.{widest}
 use Rattle.print.proofs.Writing.{put_same, put-none, put-behind}
 use Rattle.desk.specs.Chunks.{Carry, carry_byte, carry_chunk, print_chunk}
-use Rattle.desk.specs.Kept.{kept_bytes}
 use Rattle.desk.proofs.Chunks.{carry-append, print-append}
 use Rattle.ready.specs.declared.TablesBuilt.{TablesBuilt}
 use Rattle.store.specs.declared.State.{State}
 use Rattle.records.specs.Left.{Slices, byte_left, chunk_left}
 use Rattle.records.specs.Built.{built_in, byte_built, chunk_built}
-use Rattle.records.specs.Carried.{Lent, Bounds}
-use Rattle.byte.specs.declared.Fed.{Fed}
-use Rattle.byte.specs.Feeds.{carry_of, Feeds}
+use Rattle.records.specs.Carried.{Bounds}
+use Rattle.byte.specs.Feeds.{carry_of, Fed, fed, Feeds}
 use Rattle.byte.proofs.Byte.{one-fits}
 
 pub left-append : (c : Carry) (l : Slices) (xs ys : List ℕ) →
@@ -52,26 +50,18 @@ feeds-behind {s} {l} {xs = xs} {ys = ys} {before = before} {at = at} inside f g 
     }
 
 -- ---------------- the loop over a chunk
--- The sizes of what is lent.
-pub record Sizes (l : Slices) : Type 0 where
-  pub lent : Lent l.numbers.stores.a l.numbers.stores.b l.numbers.tables.a l.numbers.tables.b
-  pub text : length l.text ≡ kept_bytes
-
 module _ (s : State) (l : Slices) (chunk before : List ℕ) where
   -- The first i bytes are fed: what they come to, and at most one line is printed for each.
   pub record FedFirst (i : ℕ) (r : Fed) (after : Slices) (out : List ℕ) : Type 0 where
     pub feeds : Feeds s l (take i chunk) before 0 r after out
-    pub sizes : Sizes after
-    pub same : length out ≡ length before
-    pub within : i ≤ length chunk
     pub short : r.wrote ≤ widest * i
 
   -- At first none is fed.
-  pub fed-none : Sizes l → Bounds s → FedFirst 0 (record { state = s; wrote = 0 }) l before
+  pub fed-none : Bounds s → FedFirst 0 (fed s 0) l before
   unfolding carry_chunk chunk_left chunk_built print_chunk
-  fed-none sizes bounds =
+  fed-none bounds =
       let none = put-none before 0 in
-      let feeds : Feeds s l [] before 0 (record { state = s; wrote = 0 }) l before =
+      let feeds : Feeds s l [] before 0 (fed s 0) l before =
       record {
         carried = refl;
         left = refl;
@@ -80,22 +70,15 @@ module _ (s : State) (l : Slices) (chunk before : List ℕ) where
         bounds = bounds;
         read = omega arith;
       } in
-      record { feeds = feeds; sizes = sizes; same = refl; within = omega arith; short = omega arith }
+      record { feeds = feeds; short = omega arith }
 
 module _ {s : State} {l after : Slices} {chunk before out : List ℕ} {i : ℕ} {r : Fed}
     (p : FedFirst s l chunk before i r after out) where
-  -- There is room for one line more, and a number for one text line more.
-  pub fed-room : i < length chunk → widest * length chunk ≤ length before → r.wrote + widest ≤ length out
-  fed-room h k = omega (arith, p.short, p.same)
-
-  pub fed-number : i < length chunk → s.read + length chunk < 2 ^ 64 → r.state.read + 1 < 2 ^ 64
-  fed-number h k = omega (arith, p.feeds.read, length-take-le i chunk p.within)
-
   -- And then one byte more.
   pub fed-more : {r' : Fed} (after' : Slices) {out' : List ℕ} → i < length chunk →
-      Feeds r.state after (get_or chunk i 0 ∷ []) out r.wrote r' after' out' → Sizes after' →
-      length out' ≡ length out → FedFirst s l chunk before (i + 1) r' after' out'
-  fed-more {r'} after' {out'} h f sizes same =
+      Feeds r.state after (get_or chunk i 0 ∷ []) out r.wrote r' after' out' →
+      FedFirst s l chunk before (i + 1) r' after' out'
+  fed-more {r'} after' {out'} h f =
       let byte = get_or chunk i 0 in
       let more : take i chunk ++ byte ∷ [] ≡ take (i + 1) chunk =
       sym (ap (λ (n : ℕ). take n chunk) (add-one i) ∙ take-suc chunk i 0 h) in
@@ -104,8 +87,4 @@ module _ {s : State} {l after : Slices} {chunk before out : List ℕ} {i : ℕ} 
       let short = p.short in
       let both = feeds-behind (omega arith) p.feeds f in
       let feeds = subst (λ (xs : List ℕ). Feeds s l xs before 0 r' after' out') more both in
-      record { feeds = feeds; sizes = sizes; same = same ∙ p.same; within = omega arith; short = omega arith }
-
-  -- At last all are fed.
-  pub fed-all : length chunk ≤ i → Feeds s l chunk before 0 r after out
-  fed-all h = subst (λ (xs : List ℕ). Feeds s l xs before 0 r after out) (take_all i chunk h) p.feeds
+      record { feeds = feeds; short = omega arith }

@@ -1,11 +1,11 @@
 -- The end of the input: where bytes are pending they are a text line, which ends as if a line feed came.
-use mathlib.Core.Path.{◌≡◌, refl, sym, ◌∙◌, ap}
+use mathlib.Core.Path.{◌≡◌, refl, ◌∙◌}
 use mathlib.Core.List.{List, [], ◌∷◌}
 use Prim.Native.Nat.{ℕ, ◌<◌}
 use native.Mathlib.Omega.{arith}
-use lib.ListN.{length, take}
+use lib.ListN.{length}
 use Rattle.words.specs.Fields.{line_feed}
-use Rattle.print.proofs.Writing.{put_same, put-none}
+use Rattle.print.proofs.Writing.{put_same}
 use Rattle.desk.specs.Desk.{Desk, take_text, bytes_of}
 use Rattle.desk.specs.Chunks.{last_line}
 use Rattle.desk.specs.Kept.{kept_bytes}
@@ -13,9 +13,8 @@ use Rattle.store.specs.declared.State.{State}
 use Rattle.store.proofs.Texts.{pending-bytes}
 use Rattle.records.specs.Left.{Numbers, Slices, text_left, last_left}
 use Rattle.records.specs.Carried.{Bounds}
-use Rattle.byte.specs.declared.Fed.{Fed}
-use Rattle.byte.specs.Feeds.{carry_of, Feeds}
-use Rattle.chunks.specs.Finishes.{Finishes}
+use Rattle.byte.specs.Feeds.{carry_of, Fed, Feeds}
+use Rattle.chunks.specs.Finishes.{Finishes, Leaves}
 use Rattle.byte.proofs.Byte.{left_one, print-one}
 
 last-prints : (d : Desk) (text : List ℕ) → 0 < length text → bytes_of (take_text d text) ≡ last_line d text
@@ -27,26 +26,19 @@ last-leaves d n [] h = absurd (omega arith)
 last-leaves d n (x ∷ xs) h = refl
 
 module _ (s : State) (l : Slices) (out : List ℕ) where
-  -- Where nothing is pending, nothing is written.
-  pub last_none : s.pending ≡ 0 → Finishes s l out 0 l out
-  last_none e =
-      let d = (carry_of s l).desk in
-      let kept : [] ≡ take s.pending l.text = ap (λ (n : ℕ). take n l.text) (sym e) in
-      record {
-        left = λ i. record { numbers = last_left d l.numbers (kept i); text = l.text };
-        printed = put_same (λ i. last_line d (kept i)) (put-none out 0);
-      }
-
   -- Where bytes are pending, a line feed ends their text line.
   pub last-ends : {r : Fed} (after : Slices) {out' : List ℕ} →
       length l.text ≡ kept_bytes → Bounds s → (s.pending ≡ 0 → ⊥) →
-      Feeds s l (line_feed ∷ []) out 0 r after out' → Finishes s l out r.wrote after out'
+      Feeds s l (line_feed ∷ []) out 0 r after out' →
+      Finishes s l out r.wrote after out' × Leaves s l out r after out'
   last-ends after whole bounds any f =
       let c = carry_of s l in
       let all = pending-bytes l.text whole bounds.kept in
       let some : 0 < length c.pending = omega arith in
-      let numbers = last-leaves c.desk l.numbers c.pending some in
-      record {
-        left = f.left ∙ left_one c line_feed l refl ∙ (λ i. record { numbers = numbers i; text = l.text });
-        printed = put_same (print-one c line_feed refl ∙ last-prints c.desk c.pending some) f.printed;
-      }
+      let numbers = last-leaves c.desk l.numbers c.pending some in (
+        record {
+          left = f.left ∙ left_one c line_feed l refl ∙ (λ i. record { numbers = numbers i; text = l.text });
+          printed = put_same (print-one c line_feed refl ∙ last-prints c.desk c.pending some) f.printed;
+        },
+        record { same = λ e. absurd (any e); ended = λ _. f },
+      )

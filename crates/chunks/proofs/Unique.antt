@@ -3,7 +3,7 @@
 use mathlib.Core.Path.{◌≡◌, refl, sym, ◌∙◌, ap, subst}
 use mathlib.Core.Bool.{Bool, true, false}
 use mathlib.Core.List.{List, [], ◌∷◌}
-use Prim.Native.Nat.{ℕ, ◌*◌}
+use Prim.Native.Nat.{ℕ, zero, suc, ◌*◌}
 use native.Mathlib.Omega.{arith}
 use lib.Dec.{eqb}
 use lib.IntN.{ℤ, pos}
@@ -20,19 +20,15 @@ use Rattle.desk.specs.Desk.{Desk, room, count_text}
 use Rattle.desk.specs.Chunks.{Carry, begun, carry_byte}
 use Rattle.desk.specs.Kept.{kept_bytes, Stored}
 use Rattle.store.specs.declared.State.{State}
-use Rattle.store.specs.declared.Speech.{Speech}
-use Rattle.store.specs.declared.Speech.TheVariants.{Quiet, Says}
 use Rattle.store.specs.declared.Outcome.{Outcome}
-use Rattle.store.specs.States.{heard}
 use Rattle.store.proofs.Stores.{point-size, held-unique}
 use Rattle.store.proofs.Texts.{pending-bytes, kept-size}
 use Rattle.records.specs.Left.{Both, Numbers, Slices, slices, stores_left, record_left, text_left, byte_left, chunk_left}
 use Rattle.records.specs.Built.{built_in, none_built}
 use Rattle.records.specs.Carried.{Bounds}
 use Rattle.records.specs.Takes.{TakesText}
-use Rattle.byte.specs.declared.Fed.{Fed}
-use Rattle.byte.specs.Feeds.{carry_of, Feeds}
-use Rattle.chunks.specs.Finishes.{Finishes}
+use Rattle.byte.specs.Feeds.{carry_of, Fed, Feeds}
+use Rattle.chunks.specs.Finishes.{Finishes, Leaves}
 use Rattle.byte.proofs.Byte.{leaving}
 
 -- The sizes of the stores and of the text line that has not ended.
@@ -109,13 +105,6 @@ state-unique {s} {s'} {l} {l'} size size' k k' e built =
       pending = kept i;
     }
 
--- What is heard is spoken one way.
-speech-unique : (p q : Speech) → heard p ≡ heard q → p ≡ q
-speech-unique Quiet Quiet e = refl
-speech-unique Quiet (Says said) e = absurd (let never : ◌≡◌ {A = ℕ} 0 1 = cc in omega arith)
-speech-unique (Says said) Quiet e = absurd (let never : ◌≡◌ {A = ℕ} 0 1 = cc in omega arith)
-speech-unique (Says said) (Says said') e = cc
-
 -- ---------------- one outcome
 -- Two outcomes of a text line are equal: the state and what is said, and every lent number.
 pub takes-unique : (s : State) {l : Slices} (text : List ℕ) {r r' : Outcome} {after after' : Numbers} → Sized l →
@@ -129,8 +118,7 @@ takes-unique s {l} text {r} {r'} size (f, left, built) (g, left', built') =
     let pending = f.pending ∙ sym g.pending in
     let state = state-unique fits fits' f.bounds g.bounds
     (λ i. record { desk = (same i).desk; pending = take (pending i) l.text }) (built ∙ sym built') in
-    let speech = speech-unique r.speech r'.speech (λ i. (same i).said) in
-    ((λ i. record { state = state i; speech = speech i }), left ∙ sym left')
+    ((λ i. record { state = state i; said = (same i).said }), left ∙ sym left')
 
 -- Two outcomes of a chunk are equal: the state and the count, every lent number and byte, and the slice written.
 pub feeds-unique : {s : State} {l after after' : Slices} {chunk before out out' : List ℕ} {at : ℕ} {r r' : Fed} →
@@ -147,8 +135,22 @@ feeds-unique {s} {l} {chunk = chunk} size f g =
 
 -- .. of the end of the input: the count, every lent number and byte, and the slice written.
 pub finishes-unique : {s : State} {l after after' : Slices} {before out out' : List ℕ} {r r' : ℕ} →
-    Finishes s l before r after out → Finishes s l before r' after' out' → (r ≡ r') × (after ≡ after') × (out ≡ out')
+    Finishes s l before r after out → Finishes s l before r' after' out' →
+    (r ≡ r') × (after ≡ after') × (out ≡ out')
 finishes-unique f g = let put = put-unique f.printed g.printed in (put.1, f.left ∙ sym g.left, put.0)
+
+-- .. and the state too.
+pub finished-unique : {s : State} {l after after' : Slices} {before out out' : List ℕ} {r r' : Fed} →
+    Sized l → Finishes s l before r.wrote after out → Leaves s l before r after out →
+    Finishes s l before r'.wrote after' out' → Leaves s l before r' after' out' → r ≡ r'
+finished-unique {s} {r = r} {r'} size e f e' g = go s.pending refl
+  where
+    go : (n : ℕ) → s.pending ≡ n → r ≡ r'
+    go zero none =
+        let wrote = (finishes-unique e e').0 in
+        let state = f.same none ∙ sym (g.same none) in λ i. record { state = state i; wrote = wrote i }
+    go (suc n) some =
+        let any : s.pending ≡ 0 → ⊥ = λ none. omega arith in (feeds-unique size (f.ended any) (g.ended any)).0
 
 -- Two states that are opened are equal.
 pub opened-unique : {r r' : State} →

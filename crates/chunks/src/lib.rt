@@ -1,96 +1,71 @@
-// The question program on slices: what a chunk of bytes prints. `feed` and `finish` say it by the definitions of
-// `desk`, however the input is cut into chunks, and what every lent slice holds afterwards.
+// The question program, chunk by chunk: what a chunk of bytes prints. `feed` and `finish` say it by the definitions of
+// `desk`, however the input is cut into chunks, and what the whole desk holds afterwards.
 #![tactic(auto)]
 
 ghost use Rattle.std.specs.Prelude.{◌≡◌, ◌+◌, ◌*◌, ◌≤◌, ◌<◌, ◌^◌, length};
 ghost use Rattle.print.specs.Printed.{widest};
 ghost use Rattle.desk.specs.Chunks.{begun};
-ghost use Rattle.desk.specs.Kept.{kept_bytes};
-ghost use Rattle.records.specs.Left.{Slices, slices};
-ghost use Rattle.records.specs.Built.{built_in, none_built, StateAsBuilt};
-ghost use Rattle.records.specs.Carried.{Lent, Bounds};
-ghost use Rattle.byte.specs.Feeds.{carry_of, Feeds};
-ghost use Rattle.chunks.specs.Finishes.{Finishes};
+ghost use Rattle.records.specs.Left.{Slices};
+ghost use Rattle.records.specs.Built.{built_in, none_built};
+ghost use Rattle.records.specs.Holds.{slices_of};
+ghost use Rattle.byte.specs.Feeds.{carry_of, fed, Feeds};
+ghost use Rattle.chunks.specs.Opened.{zeros};
+ghost use Rattle.chunks.specs.Finishes.{Finishes, Leaves};
 
-use byte::{Fed, end_text, feed_byte};
+use byte::{end_text, feed_byte};
 use desk::Held;
+use limits::{KEPT_BYTES, STORE_NUMBERS, TABLE_NUMBERS};
+use records::Desk;
 use rules::Line;
 use store::State;
 
-pub fn opened() -> State
-    ensures l_value { (l : Slices) → carry_of result l ≡ begun }
-    ensures bounds { Bounds result }
-    ensures result_value { built_in result ≡ none_built }
+pub fn opened() -> Desk
+    ensures l_value { (l : Slices) → carry_of result.state l ≡ begun }
+    ensures slices { slices_of result ≡ zeros }
+    ensures result_value { built_in result.state ≡ none_built }
 {
-    let none = Held {
-        count: 0,
-        over: false,
-        built: false,
-    };
-    State {
+    let state = State {
         target: Line::NoLine,
-        a: none,
-        b: none,
+        a: Held::empty(),
+        b: Held::empty(),
         read: 0,
         printed: 0,
         pending: 0,
+    };
+    Desk {
+        state,
+        a: [0; STORE_NUMBERS],
+        b: [0; STORE_NUMBERS],
+        table_a: [0; TABLE_NUMBERS],
+        table_b: [0; TABLE_NUMBERS],
+        text: [0; KEPT_BYTES],
     }
 }
 
-// A chunk of the input: the bytes that it prints stand at the front of the lent slice.
-pub fn feed(
-    state: State,
-    a: &mut [i64],
-    b: &mut [i64],
-    table_a: &mut [i64],
-    table_b: &mut [i64],
-    text: &mut [u8],
-    chunk: &[u8],
-    out: &mut [u8],
-) -> Fed
-    requires lent { Lent a.old b.old table_a.old table_b.old × Bounds state
-        × StateAsBuilt state a.old b.old table_a.old table_b.old }
-    requires text_len { (length text.old ≡ kept_bytes) × (widest * length chunk.now ≤ length out.old) }
-    requires chunk_bound { state.read + length chunk.now < 2 ^ 64 }
-    ensures { Feeds state
-        (slices a.old b.old table_a.old table_b.old text.old)
-        chunk.now out.old 0 result
-        (slices a.new b.new table_a.new table_b.new text.new)
-        out.new }
+// A chunk of the input: the bytes that it prints, so many, stand at the front of the lent slice.
+pub fn feed(desk: &mut Desk, chunk: &[u8], out: &mut [u8]) -> usize
+    requires room { widest * length chunk.now ≤ length out.old }
+    requires chunk_bound { desk.old.state.read + length chunk.now < 2 ^ 64 }
+    ensures { Feeds desk.old.state (slices_of desk.old) chunk.now out.old 0
+        (fed desk.new.state result) (slices_of desk.new) out.new }
 {
-    let mut fed = Fed { state, wrote: 0 };
-    let mut i: usize = 0;
-    while i < chunk.len() {
-        fed = feed_byte(fed, a, b, table_a, table_b, text, chunk[i], out);
-        i += 1;
+    let mut wrote = 0;
+    for &byte in chunk {
+        wrote = feed_byte(desk, byte, out, wrote);
     }
-    fed
+    wrote
 }
 
 // The end of the input: a last text line may lack its line feed, and ends as if it had one.
-pub fn finish(
-    state: State,
-    a: &mut [i64],
-    b: &mut [i64],
-    table_a: &mut [i64],
-    table_b: &mut [i64],
-    text: &mut [u8],
-    out: &mut [u8],
-) -> usize
-    requires lent { Lent a.old b.old table_a.old table_b.old × Bounds state
-        × StateAsBuilt state a.old b.old table_a.old table_b.old }
-    requires text_len { (length text.old ≡ kept_bytes) × (widest ≤ length out.old) }
-    requires read_bound { state.read + 1 < 2 ^ 64 }
-    ensures { Finishes state
-        (slices a.old b.old table_a.old table_b.old text.old)
-        out.old result
-        (slices a.new b.new table_a.new table_b.new text.new)
-        out.new }
+pub fn finish(desk: &mut Desk, out: &mut [u8]) -> usize
+    requires room { widest ≤ length out.old }
+    requires read_bound { desk.old.state.read + 1 < 2 ^ 64 }
+    ensures finishes { Finishes desk.old.state (slices_of desk.old) out.old result (slices_of desk.new) out.new }
+    ensures leaves { Leaves desk.old.state (slices_of desk.old) out.old
+        (fed desk.new.state result) (slices_of desk.new) out.new }
 {
-    if state.pending == 0 {
+    if desk.state.pending == 0 {
         return 0;
     }
-    let fed = Fed { state, wrote: 0 };
-    let last = end_text(fed, a, b, table_a, table_b, text, out);
-    last.wrote
+    end_text(desk, out, 0)
 }

@@ -3,11 +3,12 @@
 use mathlib.Core.Path.{◌≡◌, sym, ◌∙◌, ap}
 use mathlib.Core.Bool.{cond}
 use mathlib.Core.List.{List, [], ◌∷◌}
-use mathlib.Core.Option.{none, some}
+use mathlib.Core.Option.{none}
 use Prim.Native.Nat.{ℕ}
 use native.Mathlib.Omega.{arith}
 use lib.IntN.{ℤ}
 use lib.Seq.{take_all}
+use Rattle.std.specs.Prelude.{Some}
 use Rattle.rules.specs.declared.Line.{Line}
 use Rattle.rules.specs.declared.Line.TheVariants.{LineA, LineB}
 use Rattle.rules.specs.declared.Point.{Point}
@@ -56,14 +57,14 @@ module _ (d : Desk) where
 
   -- a reply that answers, and is what the program says, is the program's answer
   program-answers : (asks : ℕ → Record) {reply plain : ℕ → Reply} {enough : ℕ} → Answers reply plain enough
-      → ((allowance : ℕ) → (take_record (count_text d) (asks allowance)).said ≡ some (reply allowance))
+      → ((allowance : ℕ) → (take_record (count_text d) (asks allowance)).said ≡ Some (reply allowance))
       → ProgramAnswers d asks plain enough
   unfolding take_text
   program-answers asks w said = record {
     needs = w.needs;
     bounded = w.bounded;
-    given = λ text a e l. rw e (said a ∙ ap some (w.given a l));
-    undecided = λ text a e l. rw e (said a ∙ ap some (w.undecided a l));
+    given = λ text a e l. rw e (said a ∙ ap Some (w.given a l));
+    undecided = λ text a e l. rw e (said a ∙ ap Some (w.undecided a l));
   }
 
   module _ (a-builds : Builds d.a) where
@@ -75,14 +76,14 @@ module _ (d : Desk) where
         → ProgramAnswers d (Near z.x z.y D) (near_plain ps_a z D) (point_enough ps_a)
     near-program z D e =
         program-answers (Near z.x z.y D) (near-built ps_a (table_of ps_a) a-builds.unrefused z D e)
-        (λ a. ap some (of-A (λ t. near_reply ps_a t z D a)))
+        (λ a. ap Some (of-A (λ t. near_reply ps_a t z D a)))
 
     -- IN, of the program
     pub in-program : (z : Point) → first_refusal (asked_check z ∷ ring_check LineA ps_a ∷ []) ≡ none
         → ProgramAnswers d (In z.x z.y) (in_plain ps_a z) (point_enough ps_a)
     in-program z e =
         program-answers (In z.x z.y) (in-built ps_a (table_of ps_a) a-builds.unrefused z e)
-        (λ a. ap some (of-A (λ t. in_reply ps_a t z a)))
+        (λ a. ap Some (of-A (λ t. in_reply ps_a t z a)))
 
     module _ (b-builds : Builds d.b) where
       of-both : (go : List ℤ → List ℤ → Reply) → of_both (count_text d) go ≡ go (table_in d.a) (table_in d.b)
@@ -95,7 +96,7 @@ module _ (d : Desk) where
       meet-program =
           program-answers Meet
           (meet-built ps_a (table_of ps_a) a-builds.unrefused ps_b (table_of ps_b) b-builds.unrefused)
-          (λ a. ap some (of-both (λ t t'. meet_reply ps_a t ps_b t' a)))
+          (λ a. ap Some (of-both (λ t t'. meet_reply ps_a t ps_b t' a)))
 
       -- AGREE, of the program
       pub agree-program : (D : ℤ) → first_refusal (distance_check D ∷ []) ≡ none
@@ -103,4 +104,4 @@ module _ (d : Desk) where
       agree-program D e =
           program-answers (Agree D)
           (agree-built ps_a (table_of ps_a) a-builds.unrefused ps_b (table_of ps_b) b-builds.unrefused D e)
-          (λ a. ap some (of-both (λ t t'. agree_reply ps_a t ps_b t' D a)))
+          (λ a. ap Some (of-both (λ t t'. agree_reply ps_a t ps_b t' D a)))

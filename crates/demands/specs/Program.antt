@@ -1,6 +1,6 @@
 -- What it means that the question program answers as plain geometry says, and which lines it has no refusal for.
-use Rattle.std.specs.Prelude.{◌≡◌, false, List, ℕ, ◌≤◌, ◌<◌}
-use Rattle.std.proofs.Math.Option.{none, some}
+use Rattle.std.specs.Prelude.{◌≡◌, false, Some, List, ℕ, ◌≤◌, ◌<◌}
+use Rattle.std.proofs.Math.Option.{none}
 use Rattle.rules.specs.declared.Word.TheVariants.{UNDECIDED}
 use Rattle.rules.specs.declared.Reply.{Reply}
 use Rattle.rules.specs.Reply.{says}
@@ -19,6 +19,6 @@ pub record ProgramAnswers (d : Desk) (asks : ℕ → Record) (plain : ℕ → Re
   pub needs : ℕ
   pub bounded : needs ≤ enough
   pub given : (text : List ℕ) (allowance : ℕ) → record_of text ≡ asks allowance → needs ≤ allowance
-      → (take_text d text).said ≡ some (plain needs)
+      → (take_text d text).said ≡ Some (plain needs)
   pub undecided : (text : List ℕ) (allowance : ℕ) → record_of text ≡ asks allowance → allowance < needs
-      → (take_text d text).said ≡ some (says UNDECIDED allowance)
+      → (take_text d text).said ≡ Some (says UNDECIDED allowance)

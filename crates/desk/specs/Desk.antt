@@ -1,6 +1,6 @@
 -- What the question program keeps from text line to text line, and what it makes of each.
-use Rattle.std.specs.Prelude.{Bool, true, false, cond, List, [], ◌∷◌, ◌++◌, ℕ, ◌+◌, ltb, ℤ}
-use Rattle.std.proofs.Math.Option.{Option, none, some}
+use Rattle.std.specs.Prelude.{Bool, true, false, cond, Option, Some, None, List, [], ◌∷◌, ◌++◌, ℕ, ◌+◌, ltb, ℤ}
+use Rattle.std.proofs.Math.Option as math
 use Rattle.rules.specs.declared.Line.{Line}
 use Rattle.rules.specs.declared.Line.TheVariants.{NoLine, LineA, LineB}
 use Rattle.rules.specs.declared.Refusal.{Refusal}
@@ -65,9 +65,9 @@ abbrev pub refused_at : ℕ → Line → ℕ → Reply
 refused_at number l place = refuses (record { number = number; line = l; place = place; visits = 0 })
 
 -- ---- each question builds A, then B if needed; a line under 13 is refused in place of its build
-abbrev pub on_build : Line → Option Refusal → Reply → Reply
-on_build l none r = r
-on_build l (some f) r = refuses (record { number = f.number; line = l; place = f.place; visits = f.visits })
+abbrev pub on_build : Line → math.Option Refusal → Reply → Reply
+on_build l math.none r = r
+on_build l (math.some f) r = refuses (record { number = f.number; line = l; place = f.place; visits = f.visits })
 
 unfoldable pub with_table : Line → Store → ℕ → (List ℤ → Reply) → Reply
 with_table l s place go =
@@ -86,10 +86,10 @@ pub record Taken : Type 0 where
   pub said : Option Reply
 
 abbrev pub quiet : Desk → Taken
-quiet d = record { desk = d; said = none }
+quiet d = record { desk = d; said = None }
 
 abbrev pub saying : Desk → Reply → Taken
-saying d r = record { desk = count_printed d; said = some r }
+saying d r = record { desk = count_printed d; said = Some r }
 
 -- each point past the 257th is refusal 13 and isn't stored; points before any LINE are refusal 12
 abbrev pub add_point : Desk → Line → ℤ → ℤ → Taken
@@ -119,8 +119,8 @@ take_text d text = take_record (count_text d) (record_of text)
 
 -- ---- the bytes that are printed of what is taken: the ordinal is that of the printed line
 abbrev pub said_bytes : Option Reply → ℕ → List ℕ
-said_bytes none ordinal = []
-said_bytes (some r) ordinal = printed ordinal r
+said_bytes None ordinal = []
+said_bytes (Some r) ordinal = printed ordinal r
 
 abbrev pub bytes_of : Taken → List ℕ
 bytes_of t = said_bytes t.said t.desk.printed_lines

@@ -1,4 +1,5 @@
 -- What is put into the number that a walk comes to is read out of it, and a walk that stopped stays as it is.
+use Rattle.std.specs.Prelude.{Option, Some, None}
 use mathlib.Core.Path.{◌≡◌, refl, sym, ◌∙◌, ap}
 use mathlib.Core.Bool.{Bool, true, false, cond}
 use Prim.Native.Nat.{ℕ, zero, suc, ◌+◌, ◌-◌, ◌<◌, ◌≤◌}
@@ -7,8 +8,6 @@ use borrow.Author.Tests.{lt-ltb, le-ltb, ne_eqb, leb-false, leb-true}
 use lib.Dec.{leb, ltb, eqb}
 use Rattle.rules.specs.declared.Line.{Line}
 use Rattle.rules.specs.declared.Tally.{Tally}
-use Rattle.rules.specs.declared.Next.{Next}
-use Rattle.rules.specs.declared.Next.TheVariants.{Left, Spent}
 use Rattle.rules.specs.Tree.{most_rows}
 use Rattle.rules.specs.Walk.{next, Walked, ended, over, spent, refused, go_on}
 use Rattle.ending.specs.Ending.{half, packed, visits_in, end_in, ENDED, over_at, bad_row, bad_second, odd_in}
@@ -21,21 +20,21 @@ pub end-in : (v e : ℕ) → e < half → end_in (packed v e) ≡ e
 end-in v e small = omega arith
 
 -- ---------------- a visit that is counted gives the next tally, which keeps the allowance
-pub next-counts : (y v : Tally) → next y ≡ Left v → v ≡ record { allowance = y.allowance; visits = y.visits + 1 }
+pub next-counts : (y v : Tally) → next y ≡ Some v → v ≡ record { allowance = y.allowance; visits = y.visits + 1 }
 next-counts y v = by (ltb y.visits y.allowance)
   where
     counted : Tally
     counted = record { allowance = y.allowance; visits = y.visits + 1 }
 
-    of : Next → Tally
-    of (Left x) = x
-    of Spent = counted
+    of : Option Tally → Tally
+    of (Some x) = x
+    of None = counted
 
-    by : (b : Bool) → cond b (Left counted) Spent ≡ Left v → v ≡ counted
+    by : (b : Bool) → cond b (Some counted) None ≡ Some v → v ≡ counted
     by true e = sym (ap of e)
     by false e = sym (ap of e)
 
-pub keeps : (y v : Tally) → next y ≡ Left v → v.allowance ≡ y.allowance
+pub keeps : (y v : Tally) → next y ≡ Some v → v.allowance ≡ y.allowance
 keeps y v e = ap (λ (x : Tally). x.allowance) (next-counts y v e)
 
 module _ {S : Type 0} (even odd : S) (l m : Line) (allowance : ℕ) where

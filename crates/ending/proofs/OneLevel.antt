@@ -1,6 +1,7 @@
 -- One level of a walk, whatever one visit does: what the code hands back as a number tells what the written walk comes
 -- to. A visit ends the walk at its node, or halves it: then the left half stops the walk, or the right half goes on
 -- with the count and the visits of the left.
+use Rattle.std.specs.Prelude.{Some, None}
 use mathlib.Core.Path.{◌≡◌, refl, sym, ◌∙◌, ap}
 use mathlib.Core.Bool.{Bool, true, false, cond}
 use Prim.Native.Nat.{ℕ, pred, ◌+◌, ◌<◌}
@@ -8,10 +9,8 @@ use native.Mathlib.Omega.{arith}
 use lib.Dec.{leb}
 use Rattle.rules.specs.declared.Line.{Line}
 use Rattle.rules.specs.declared.Tally.{Tally}
-use Rattle.rules.specs.declared.Next.TheVariants.{Left, Spent}
 use Rattle.rules.specs.Tree.{most_rows}
 use Rattle.rules.specs.Walk.{next, Visit, refuse, finish, pass, halve, Walked, over, go_on, on_step, walk}
-use Rattle.rules.specs.Questions.{Nothing}
 use Rattle.visits.proofs.Levels.{visited, halved}
 use Rattle.visits.proofs.Levels.{none_left as spent-here}
 use Rattle.ending.specs.Ending.{packed, end_in, ENDED, SPENT, bad_row, bad_second, over_at, odd_in, tally_in, due}
@@ -33,22 +32,6 @@ pub record Level (S N : Type 0) : Type 0 where
   pub levels : ℕ
   pub some_level : 0 < levels
 
--- so where nothing is counted
-abbrev pub uncounted : {N : Type 0} → Line → Line → (N → Visit Nothing N) → N → Tally → (f : ℕ) → 0 < f
-    → Level Nothing N
-uncounted l m does n y f h = record {
-  even = tt;
-  odd = tt;
-  first = l;
-  second = m;
-  does = does;
-  node = n;
-  count = tt;
-  tally = y;
-  levels = f;
-  some_level = h;
-}
-
 module _ {S N : Type 0} (v : Level S N) where
   -- what a number says by the allowance of a tally
   abbrev pub says : Tally → ℕ → Walked S
@@ -62,14 +45,14 @@ module _ {S N : Type 0} (v : Level S N) where
   below n s y = walk v.does (pred v.levels) n s y
 
   -- ---------------- a visit is due and none is left
-  pub none_left : {r : ℕ} → next v.tally ≡ Spent → r ≡ packed 0 SPENT → says v.tally r ≡ whole
+  pub none_left : {r : ℕ} → next v.tally ≡ None → r ≡ packed 0 SPENT → says v.tally r ≡ whole
   none_left e is =
       ap (says v.tally) is
       ∙ reads-spent _ _ _ _ v.tally.allowance 0
       ∙ spent-here v.does v.node v.count v.tally v.levels v.some_level e
 
   -- ---------------- a visit is made; the next tally keeps the allowance
-  module _ {counted : Tally} (made : next v.tally ≡ Left counted) where
+  module _ {counted : Tally} (made : next v.tally ≡ Some counted) where
     pub same : (r : ℕ) → says v.tally r ≡ says counted r
     same r =
         ap (λ (k : ℕ). walked_in v.even v.odd v.first v.second k r) (sym (keeps v.tally counted made))

@@ -1,9 +1,8 @@
 -- How a walk came to its end, in one number: the visits made in the upper half, how it ended in the lower.
+use Rattle.std.specs.Prelude.{Option, Some, None}
 use Rattle.std.specs.Prelude.{Bool, cond, ℕ, ◌+◌, ◌*◌, ◌-◌, ◌/◌, ◌%◌, ◌^◌, ltb, eqb}
 use Rattle.rules.specs.declared.Line.{Line}
 use Rattle.rules.specs.declared.Refusal.{Refusal}
-use Rattle.rules.specs.declared.Next.{Next}
-use Rattle.rules.specs.declared.Next.TheVariants.{Left, Spent}
 use Rattle.rules.specs.declared.Tally.{Tally}
 use Rattle.rules.specs.Tree.{most_rows}
 use Rattle.rules.specs.Walk.{Walked, ended, over, spent, refused}
@@ -63,9 +62,9 @@ abbrev pub tally_in : ℕ → ℕ → Tally
 tally_in allowance r = record { allowance = allowance; visits = visits_in r }
 
 -- a visit was due that ends the walk like this, if there was one left to make
-abbrev pub due : Next → ℕ → ℕ
-due (Left v) end = packed v.visits end
-due Spent end = packed 0 SPENT
+abbrev pub due : Option Tally → ℕ → ℕ
+due (Some v) end = packed v.visits end
+due None end = packed 0 SPENT
 
 -- ---- the same in the words of the walk, with the counts that even and odd stand for
 unfoldable pub walked_in : {S : Type 0} → S → S → Line → Line → ℕ → ℕ → Walked S

@@ -10,7 +10,7 @@ ghost use Rattle.ending.specs.Ending.{packed, visits_in, end_in, ENDED, over_at,
 ghost use Rattle.ending.specs.Ending.{refusal_in};
 ghost use Rattle.ending.specs.Ending.{tally_in, due, walked_in};
 
-use rules::{Line, Next, Refusal, Reply, Tally, Word, refuses, says};
+use rules::{Line, Refusal, Reply, Tally, Word, refuses, says};
 
 // How a walk ended: over, with an even count,
 pub const EVEN: u32 = 0;
@@ -36,8 +36,8 @@ pub const PAST: u32 = BAD_SECOND + limits::MOST_ROWS as u32;
 // The visits made stand above how a walk ended, which has the 32 bits below.
 const HALF: u64 = 1 << 32;
 
-// How a walk came to its end is one number, which a walk hands back in a register: the visits made, times HALF, and how
-// it ended below them.
+// How a walk came to its end is one number, which a walk hands back in a register, where an enum goes through memory at
+// each level: the visits made, times HALF, and how it ended below them.
 pub fn pack(visits: u32, end: u32) -> u64
     ensures { result ≡ packed visits end }
 {
@@ -92,7 +92,7 @@ pub fn bad_row(visits: u32, row: usize) -> u64
 fn due(tally: Tally, end: u32) -> u64
     ensures { result ≡ due (next tally) end }
 {
-    let Next::Left(counted) = tally.visit() else {
+    let Some(counted) = tally.visit() else {
         return pack(0, SPENT);
     };
     pack(counted.visits, end)

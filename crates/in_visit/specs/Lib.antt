@@ -1,2 +1,2 @@
 -- What the contracts of `in_visit` are said with.
-pub mod Steps
+pub mod Tests

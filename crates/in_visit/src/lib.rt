@@ -1,73 +1,43 @@
-// One visit of IN: it reads one row, checks it, and counts the node's chord alone, tests its one segment or halves it.
-// What it does is what `rules` writes, for all numbers that the slices can hold.
+// IN as a question to the walk: whether a point is clear of a node, on a segment, and level with a chord to its right.
+// What it answers is what `rules` writes, for all rows and points of the sheet.
 #![tactic(auto)]
 
-ghost use Rattle.std.specs.Prelude.{◌≡◌, ◌<◌};
-ghost use Rattle.rules.specs.Sheet.{most};
+ghost use Rattle.std.specs.Prelude.{Bool};
 ghost use Rattle.limits.specs.Small.{OnSheet};
-ghost use Rattle.in_visit.specs.Steps.{leaf_step, inner_step, Asks, Visits};
+ghost use Rattle.in_visit.specs.Tests.{parity, in_tests};
 
-use line::{point_at, step};
-use row::{frame_good, leaf_good, row_at, split_of, splits_inside};
-use rules::{Node, Point, Row};
+use rules::{Point, Row};
 use sides::{clear_along, clear_of, crosses, on_segment};
+use walk::Question;
 
-// What one visit does: refused by 10, on-edge, whether to count one crossing, or the halves at a split.
+// The point that is asked for.
 #[derive(Drop)]
-pub enum Step {
-    Bad,
-    Finish,
-    Pass(bool),
-    Halve(usize),
+pub struct In {
+    pub z: Point,
+    ghost on_sheet: { OnSheet z },
 }
 
-// A leaf whose frame is good: its points differ, so it heads along its step.
-fn leaf_step(r: Row, a: Point, b: Point, z: Point) -> Step
-    requires { OnSheet a × OnSheet b × OnSheet z }
-    ensures { result ≡ leaf_step r a b z }
-{
-    if !leaf_good(r, a, b) {
-        return Step::Bad;
-    }
-    if clear_along(r, a, step(a, b), z) {
-        return Step::Pass(crosses(z, a, b));
-    }
-    if on_segment(z, a, b) {
-        return Step::Finish;
-    }
-    Step::Pass(crosses(z, a, b))
-}
+// IN counts whether the chords that cross are odd.
+impl Question for In {
+    ghost Count = { Bool };
 
-// A node of more segments whose frame is good: z clear of it counts the chord alone.
-fn inner_step(r: Row, first: usize, last: usize, a: Point, b: Point, z: Point) -> Step
-    requires first_lt_last { (first < last) × (last < most) }
-    requires on_sheet { OnSheet a × OnSheet b × OnSheet z }
-    ensures { result ≡ inner_step r first last a b z }
-{
-    if !splits_inside(r, first, last) {
-        return Step::Bad;
-    }
-    if clear_of(r, a, b, z) {
-        return Step::Pass(crosses(z, a, b));
-    }
-    Step::Halve(split_of(r))
-}
+    ghost counting = { parity };
 
-// A visit of a node whose ends are known to be on the sheet.
-pub fn visit(points: &[i64], table: &[i64], node: Node, z: Point) -> Step
-    requires { Asks points.now table.now node z }
-    ensures { Visits points.now table.now node z result }
-{
-    let first = node.first;
-    let last = node.last;
-    let r = row_at(table, node.row);
-    let a = point_at(points, first);
-    let b = point_at(points, last);
-    if !frame_good(r, first, last) {
-        return Step::Bad;
+    ghost tests = { λ s. in_tests s.z };
+
+    fn dismisses(&self, r: Row, a: Point, b: Point) -> bool {
+        clear_of(r, a, b, self.z)
     }
-    if last <= first + 1 {
-        return leaf_step(r, a, b, z);
+
+    fn dismisses_along(&self, r: Row, a: Point, u: Point) -> bool {
+        clear_along(r, a, u, self.z)
     }
-    inner_step(r, first, last, a, b, z)
+
+    fn meets(&self, a: Point, b: Point) -> bool {
+        on_segment(self.z, a, b)
+    }
+
+    fn crosses(&self, a: Point, b: Point) -> bool {
+        crosses(self.z, a, b)
+    }
 }

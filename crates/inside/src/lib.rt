@@ -3,12 +3,13 @@
 #![tactic(auto)]
 
 ghost use Rattle.std.specs.Prelude.{◌≡◌, true, false, ◌≤◌, length};
-ghost use Rattle.rules.specs.Questions.{side_of_ring, in_reply};
+ghost use Rattle.rules.specs.Reply.{checked_refusal, first_refusal};
+ghost use Rattle.rules.specs.Questions.{side_of_ring, in_checks, in_reply};
 ghost use Rattle.rules.specs.Rows.{ring_check};
 ghost use Rattle.ending.specs.Ending.{walked_in};
 
-use line::{check_lengths, early, on_sheet, point_at, same_point};
-use rules::{Checked, Line, Point, Reply, Word, refuses, says};
+use line::{check_lengths, early, on_sheet, point_at};
+use rules::{Line, Point, Refusal, Reply, Word, refuses, says};
 
 // Refusal 9: fewer than 4 points, or first and last differ.
 fn no_ring(points: &[i64]) -> bool
@@ -19,7 +20,7 @@ fn no_ring(points: &[i64]) -> bool
     if count < 4 {
         return true;
     }
-    !same_point(point_at(points, 0), point_at(points, count - 1))
+    point_at(points, 0) != point_at(points, count - 1)
 }
 
 // Inside when the count is odd.
@@ -43,18 +44,26 @@ fn side_of_ring(ending: u64, allowance: u32) -> Reply
     refuses(ending::refusal(Line::LineA, Line::LineA, ending))
 }
 
-// Which side of the ring z is on, by at most this many visits. Refusals 1, 2, 3, 6, 8, 9, then the walk.
+// Refusals 1, 2, 3, 6, 8 and 9, in this order.
+fn in_checks(points: &[i64], table: &[i64], z: Point) -> Result<(), Refusal>
+    ensures { checked_refusal result ≡ first_refusal (in_checks points.now table.now z) }
+{
+    check_lengths(Line::LineA, points, table)?;
+    if !on_sheet(z) {
+        return Err(early(8, Line::NoLine));
+    }
+    if no_ring(points) {
+        return Err(early(9, Line::LineA));
+    }
+    Ok(())
+}
+
+// Which side of the ring z is on, by at most this many visits: the checks, then the walk.
 pub fn inside(points: &[i64], table: &[i64], z: Point, allowance: u32) -> Reply
     ensures { result ≡ in_reply points.now table.now z allowance }
 {
-    if let Checked::Refused(refusal) = check_lengths(Line::LineA, points, table) {
+    if let Err(refusal) = in_checks(points, table, z) {
         return refuses(refusal);
-    }
-    if !on_sheet(z) {
-        return refuses(early(8, Line::NoLine));
-    }
-    if no_ring(points) {
-        return refuses(early(9, Line::LineA));
     }
     side_of_ring(in_walk::ask(&points, &table, z, allowance), allowance)
 }

@@ -9,8 +9,5 @@ pub fn magnitude(x: i64) -> u64
     requires { Abs≤ (2 ^ 62) x }
     ensures { result ≡ nat_abs x }
 {
-    if x < 0 {
-        return (-x) as u64;
-    }
-    x as u64
+    x.unsigned_abs()
 }

@@ -4,7 +4,7 @@
 #![tactic(auto)]
 
 use chunks::opened;
-use limits::{CHUNK_BYTES, KEPT_BYTES, STORE_NUMBERS, TABLE_NUMBERS, WRITTEN_BYTES};
+use limits::{CHUNK_BYTES, WRITTEN_BYTES};
 use reading::{Next, pass};
 use std::io::{Print, Read};
 
@@ -12,75 +12,26 @@ use std::io::{Print, Read};
 const LAST: u64 = u64::MAX - CHUNK_BYTES as u64;
 
 fn main(rt: HostRuntime) {
-    let mut a = [0i64; STORE_NUMBERS];
-    let mut b = [0i64; STORE_NUMBERS];
-    let mut table_a = [0i64; TABLE_NUMBERS];
-    let mut table_b = [0i64; TABLE_NUMBERS];
-    let mut text = [0u8; KEPT_BYTES];
+    let mut desk = opened();
     let mut chunk = [0u8; CHUNK_BYTES];
     let mut out = [0u8; WRITTEN_BYTES];
-    let mut state = opened();
     let mut so_far: u64 = 0;
     while so_far <= LAST {
-        let got = read(&rt, &mut chunk);
-        let past = pass(
-            so_far,
-            state,
-            got,
-            &chunk,
-            &mut a,
-            &mut b,
-            &mut table_a,
-            &mut table_b,
-            &mut text,
-            &mut out,
-        );
-        let wrote = past.wrote;
-        if rt.write_all(&out[..wrote]).is_err() {
-            tell_unwritten(&rt);
-            return;
+        let got = rt.stdin().read(&mut chunk).ok();
+        let past = pass(so_far, &mut desk, got, &chunk, &mut out);
+        if rt.write_all(&out[..past.wrote]).is_err() {
+            return tell(&rt, "kneukelboom: standard output cannot be written\n");
         }
-        let next = past.next;
-        match next {
-            Next::More => {}
-            Next::Ended => {
-                return;
-            }
-            Next::Failed => {
-                tell_unread(&rt);
-                return;
-            }
+        match past.next {
+            Next::More(bytes) => so_far = bytes,
+            Next::Ended => return,
+            Next::Failed => return tell(&rt, "kneukelboom: standard input cannot be read\n"),
         }
-        let carried = past.state;
-        state = carried;
-        so_far = past.bytes;
     }
-    tell_endless(&rt);
-}
-
-// What a read of standard input answered: the number of bytes that came, and below 0 that it failed.
-fn read(rt: &HostRuntime, chunk: &mut [u8; CHUNK_BYTES]) -> isize {
-    match rt.stdin().read(chunk) {
-        Ok(n) => n as isize,
-        Err(_) => -1,
-    }
+    tell(&rt, "kneukelboom: standard input does not end\n");
 }
 
 // What is told where the program stops before the end of the input.
-fn tell_unwritten(rt: &HostRuntime) {
-    let _ = rt
-        .stderr()
-        .write_all(b"kneukelboom: standard output cannot be written\n");
-}
-
-fn tell_unread(rt: &HostRuntime) {
-    let _ = rt
-        .stderr()
-        .write_all(b"kneukelboom: standard input cannot be read\n");
-}
-
-fn tell_endless(rt: &HostRuntime) {
-    let _ = rt
-        .stderr()
-        .write_all(b"kneukelboom: standard input does not end\n");
+fn tell(rt: &HostRuntime, what: &str) {
+    let _ = rt.stderr().write_all(what.as_bytes());
 }

@@ -10,7 +10,7 @@ ghost use Rattle.rules.specs.Reply.{checked_refusal};
 ghost use Rattle.rules.specs.Questions.{near_reply, meet_reply, in_reply, agree_reply};
 ghost use Rattle.kneukelboom_c.specs.Codes.{word_code, line_code, coded, coded_checked};
 
-use rules::{Checked, Line, Point, Reply, Word, refuses};
+use rules::{Line, Point, Refusal, Reply, Word, refuses};
 
 // What a call answers, in numbers: the word's code, the visits, the refusal number or 0, the line's code, and the
 // place or 0.
@@ -24,6 +24,7 @@ pub struct KneukelboomReply {
     pub place: u64,
 }
 
+// The C header fixes these codes, so each stands beside its name: a cast would tie the C interface to the enum's order.
 fn line_code(line: Line) -> u32
     ensures { result ≡ line_code line }
 {
@@ -34,6 +35,7 @@ fn line_code(line: Line) -> u32
     }
 }
 
+// Fixed by the C header too.
 fn word_code(word: Word) -> u32
     ensures { result ≡ word_code word }
 {
@@ -48,34 +50,35 @@ fn word_code(word: Word) -> u32
     }
 }
 
-// A reply in numbers.
-fn coded(reply: Reply) -> KneukelboomReply
-    ensures { result ≡ coded reply }
-{
-    let word = reply.word;
-    let line = reply.line;
-    KneukelboomReply {
-        word: word_code(word),
-        visits: reply.visits,
-        number: reply.number,
-        line: line_code(line),
-        place: reply.place as u64,
+impl From<Reply> for KneukelboomReply {
+    ghost from_gives = { λ reply result. result ≡ coded reply };
+
+    fn from(reply: Reply) -> KneukelboomReply {
+        KneukelboomReply {
+            word: word_code(reply.word),
+            visits: reply.visits,
+            number: reply.number,
+            line: line_code(reply.line),
+            place: reply.place as u64,
+        }
     }
 }
 
 // What the checks of a build, of a widening or of a table came to, in numbers.
-fn coded_checked(checked: Checked) -> KneukelboomReply
-    ensures { result ≡ coded_checked (checked_refusal checked) }
-{
-    match checked {
-        Checked::Fine => KneukelboomReply {
-            word: 0,
-            visits: 0,
-            number: 0,
-            line: 0,
-            place: 0,
-        },
-        Checked::Refused(refusal) => coded(refuses(refusal)),
+impl From<Result<(), Refusal>> for KneukelboomReply {
+    ghost from_gives = { λ checked result. result ≡ coded_checked (checked_refusal checked) };
+
+    fn from(checked: Result<(), Refusal>) -> KneukelboomReply {
+        match checked {
+            Ok(()) => KneukelboomReply {
+                word: 0,
+                visits: 0,
+                number: 0,
+                line: 0,
+                place: 0,
+            },
+            Err(refusal) => refuses(refusal).into(),
+        }
     }
 }
 
@@ -84,7 +87,7 @@ pub extern "C" fn kneukelboom_widen_v2(old: &[i32], new: &mut [i64]) -> Kneukelb
     ensures value { result ≡ coded_checked (widen_refusal old.now new.old) }
     ensures after { new.new ≡ widened old.now new.old }
 {
-    coded_checked(widen::widen(old, new))
+    widen::widen(old, new).into()
 }
 
 #[unsafe(no_mangle)]
@@ -92,14 +95,14 @@ pub extern "C" fn kneukelboom_build_v2(points: &[i64], table: &mut [i64]) -> Kne
     ensures value { result ≡ coded_checked (build_refusal points.now table.old) }
     ensures table_after { table.new ≡ built_table points.now table.old }
 {
-    coded_checked(build::build(points, table))
+    build::build(points, table).into()
 }
 
 #[unsafe(no_mangle)]
 pub extern "C" fn kneukelboom_check_v2(points: &[i64], table: &[i64]) -> KneukelboomReply
     ensures { result ≡ coded_checked (check_refusal points.now table.now) }
 {
-    coded_checked(checker::check(points, table))
+    checker::check(points, table).into()
 }
 
 #[unsafe(no_mangle)]
@@ -114,7 +117,7 @@ pub extern "C" fn kneukelboom_near_v2(
     ensures { result ≡ coded (near_reply points.now table.now
         (record { x = x; y = y }) distance allowance) }
 {
-    coded(near::near(points, table, Point { x, y }, distance, allowance))
+    near::near(points, table, Point { x, y }, distance, allowance).into()
 }
 
 #[unsafe(no_mangle)]
@@ -128,7 +131,7 @@ pub extern "C" fn kneukelboom_inside_v2(
     ensures { result ≡ coded (in_reply points.now table.now
         (record { x = x; y = y }) allowance) }
 {
-    coded(inside::inside(points, table, Point { x, y }, allowance))
+    inside::inside(points, table, Point { x, y }, allowance).into()
 }
 
 #[unsafe(no_mangle)]
@@ -142,7 +145,7 @@ pub extern "C" fn kneukelboom_meet_v2(
     ensures { result ≡ coded (meet_reply points_a.now table_a.now
         points_b.now table_b.now allowance) }
 {
-    coded(meet::meet(points_a, table_a, points_b, table_b, allowance))
+    meet::meet(points_a, table_a, points_b, table_b, allowance).into()
 }
 
 #[unsafe(no_mangle)]
@@ -157,5 +160,5 @@ pub extern "C" fn kneukelboom_agree_v2(
     ensures { result ≡ coded (agree_reply points_a.now table_a.now
         points_b.now table_b.now distance allowance) }
 {
-    coded(agree::agree(points_a, table_a, points_b, table_b, distance, allowance))
+    agree::agree(points_a, table_a, points_b, table_b, distance, allowance).into()
 }

@@ -1,5 +1,7 @@
 // Numbers of two words. Squares of c and t pass 64 bits: where they are compared, it is with these, and their meaning
-// is said once. The shapes below are those of which the compiler makes one multiplication for each product.
+// is said once. The shapes below are those of which the compiler makes one multiplication for each product. No u128:
+// the theorems and the wrong programs of this crate are about these words and columns (`whole-product`, `carry_lost`,
+// ..).
 #![tactic(auto)]
 
 ghost use Rattle.std.specs.Prelude.{◌≡◌, ◌+◌, ◌*◌, ◌^◌, ◌<◌, ◌≤◌, nat_lt};

@@ -3,3 +3,4 @@ pub mod Smalls
 pub mod Stored
 pub mod Lengths
 pub mod Headings
+pub mod Picks

@@ -2,35 +2,22 @@
 // ask for. Every function says its result by a definition of `rules`.
 #![tactic(auto)]
 
-ghost use Rattle.std.specs.Prelude.{◌≡◌, ◌+◌, ◌*◌, ◌<◌, ◌+ℤ◌, ◌-ℤ◌, ◌*ℤ◌, length};
-ghost use Rattle.integers.specs.Order.{min_z, max_z};
-ghost use Rattle.rules.specs.Plane.{same_point, step, direction, c_at, t_at, size²};
-ghost use Rattle.rules.specs.Sheet.{point, in_sheet, on_sheet};
+ghost use Rattle.std.specs.Prelude.{◌≡◌, ◌+◌, ◌*◌, ◌<◌, ◌≤◌, OnOk, ◌+ℤ◌, ◌-ℤ◌, ◌*ℤ◌, length};
+ghost use Rattle.rules.specs.Plane.{step, direction, c_at, t_at, size²};
+ghost use Rattle.rules.specs.Sheet.{fewest, most, point, points_of, in_sheet, on_sheet};
 ghost use Rattle.rules.specs.Reply.{checked_refusal, first_refusal};
-ghost use Rattle.rules.specs.Rows.{length_checks};
+ghost use Rattle.rules.specs.Rows.{point_checks, length_checks};
 ghost use Rattle.rules.specs.Build.{holds_number};
 ghost use Rattle.limits.specs.Small.{OnSheet, Small};
 
 use limits::{FEWEST, LIMIT, MOST, WIDTH};
-use rules::{Checked, Line, Point, Refusal};
-
-pub fn lesser(a: i64, b: i64) -> i64
-    ensures { result ≡ min_z a b }
-{
-    if a < b { a } else { b }
-}
-
-pub fn greater(a: i64, b: i64) -> i64
-    ensures { result ≡ max_z a b }
-{
-    if a < b { b } else { a }
-}
+use rules::{Line, Point, Refusal};
 
 // Whether v lies between lo and hi.
 pub fn holds(lo: i64, hi: i64, v: i64) -> bool
     ensures { result ≡ holds_number lo hi v }
 {
-    (lo <= v) & (v <= hi)
+    (lo..=hi).contains(&v)
 }
 
 // Point i of a line.
@@ -44,10 +31,11 @@ pub fn point_at(points: &[i64], i: usize) -> Point
     }
 }
 
+#[tactic(auto, unfolding(rules::specs::Sheet::between))]
 pub fn in_sheet(v: i64) -> bool
     ensures { result ≡ in_sheet v }
 {
-    (-LIMIT <= v) & (v <= LIMIT)
+    (-LIMIT..=LIMIT).contains(&v)
 }
 
 pub fn on_sheet(p: Point) -> bool
@@ -64,12 +52,6 @@ pub fn on_sheet_at(points: &[i64], i: usize) -> bool
     on_sheet(point_at(points, i))
 }
 
-pub fn same_point(a: Point, b: Point) -> bool
-    ensures { result ≡ same_point a b }
-{
-    a.x == b.x && a.y == b.y
-}
-
 // The step from a to b.
 pub fn step(a: Point, b: Point) -> Point
     requires { OnSheet a × OnSheet b }
@@ -82,11 +64,12 @@ pub fn step(a: Point, b: Point) -> Point
 }
 
 // The step from the first point to the last, or (1, 0) where they are equal.
+#[tactic(auto, unfolding(rules::specs::Plane::direction))]
 pub fn direction(a: Point, b: Point) -> Point
     requires { OnSheet a × OnSheet b }
     ensures { result ≡ direction a b }
 {
-    if same_point(a, b) {
+    if a == b {
         return Point { x: 1, y: 0 };
     }
     step(a, b)
@@ -140,22 +123,31 @@ pub fn early(number: u32, line: Line) -> Refusal
     }
 }
 
-// Refusals 1, 2, 3 and 6 of a line and its table.
-pub fn check_lengths(line: Line, points: &[i64], table: &[i64]) -> Checked
-    ensures { checked_refusal result ≡ first_refusal (length_checks line points.now table.now) }
+// Refusals 1, 2 and 3 of a line's points.
+pub fn check_points(line: Line, points: &[i64]) -> Result<(), Refusal>
+    ensures refusal { checked_refusal result ≡ first_refusal (point_checks line points.now) }
+    ensures counted { OnOk result ((fewest ≤ points_of points.now) × (points_of points.now ≤ most)) }
 {
     if points.len() % 2 == 1 {
-        return Checked::Refused(early(1, line));
+        return Err(early(1, line));
     }
     let count = points.len() / 2;
     if count < FEWEST {
-        return Checked::Refused(early(2, line));
+        return Err(early(2, line));
     }
     if MOST < count {
-        return Checked::Refused(early(3, line));
+        return Err(early(3, line));
     }
-    if table.len() < WIDTH * (2 * (count - 1) - 1) {
-        return Checked::Refused(early(6, line));
+    Ok(())
+}
+
+// Refusals 1, 2, 3 and 6 of a line and its table.
+pub fn check_lengths(line: Line, points: &[i64], table: &[i64]) -> Result<(), Refusal>
+    ensures { checked_refusal result ≡ first_refusal (length_checks line points.now table.now) }
+{
+    check_points(line, points)?;
+    if table.len() < WIDTH * (2 * (points.len() / 2 - 1) - 1) {
+        return Err(early(6, line));
     }
-    Checked::Fine
+    Ok(())
 }

@@ -1,6 +1,6 @@
 -- What a good row that was read gives: points, a heading and a box for exact arithmetic, and an inner split.
-use mathlib.Core.Path.{◌≡◌, sym, ◌∙◌, ap, subst, subst₂}
-use mathlib.Core.Bool.{Bool, ◌&&◌}
+use mathlib.Core.Path.{◌≡◌, sym, subst, subst₂}
+use mathlib.Core.Bool.{◌&&◌}
 use mathlib.Core.List.{List}
 use Prim.Native.Nat.{ℕ, ◌+◌, ◌<◌}
 use lib.Dec.{T}
@@ -14,19 +14,17 @@ use Rattle.rules.specs.declared.Node.{Node}
 use Rattle.rules.specs.declared.Pair.{Pair}
 use Rattle.rules.specs.declared.Point.{Point}
 use Rattle.rules.specs.declared.Row.{Row}
-use Rattle.rules.specs.Plane.{direction}
 use Rattle.rules.specs.Tree.{row_at}
 use Rattle.rules.specs.Rows.{range_good, split_good, strip_good, box_good, ends_good, leaf_good, good}
-use Rattle.rules.specs.Questions.{split_in, start_of, end_of, heading_of, apart}
+use Rattle.rules.specs.Questions.{split_in, start_of, end_of}
 use Rattle.visits.specs.Nodes.{Inner}
 use Rattle.visits.proofs.Nodes.{GoodRow, good-read, fits-row}
 use Rattle.visits.proofs.Tests.{four-yes}
-use Rattle.row.proofs.Places.{row_small}
 use Rattle.limits.specs.Small.{OnSheet}
 use Rattle.apart.specs.Placed.{Placed}
 use Rattle.meet_visit.specs.Pairs.{NodeStands, PairStands, HasSplit, Read}
-use Rattle.meet_visit.specs.Pairs.{row_of_both, row_a, row_b, TellsNode, node_in, pair_in}
-use Rattle.meet_visit.specs.Steps.{tested, compared}
+use Rattle.meet_visit.specs.Pairs.{TellsNode, node_in, pair_in}
+use Rattle.meet_visit.specs.declared.Rows.{Rows}
 use Rattle.limits.proofs.OnSheets.{between-abs, on-sheet}
 
 -- the row of a node that stands, when it is read
@@ -36,28 +34,6 @@ read_of {ps} {t} {n} h e = record {
   stands = h.stands;
   row-good = subst (λ (r : Row). T (good ps r n.first n.last)) (sym e) h.row-good;
 }
-
--- the points that a node begins and ends with, when they are read
-pub record EndsRead (ps : List ℤ) (n : Node) (start end : Point) : Type 0 where
-  pub starts : start ≡ start_of ps n
-  pub ends : end ≡ end_of ps n
-
-pub apart-read : {ps qs : List ℤ} (r q : Row) {m n : Node} {p e p' e' : Point} {x : Bool} → EndsRead ps m p e
-    → EndsRead qs n p' e' → x ≡ apart r p (direction p e) q p' (direction p' e')
-    → x ≡ apart r (start_of ps m) (heading_of ps m) q (start_of qs n) (heading_of qs n)
-apart-read r q a b h =
-    h
-    ∙ (λ i. apart r (a.starts i) (direction (a.starts i) (a.ends i))
-    q (b.starts i) (direction (b.starts i) (b.ends i)))
-
-pub tested-read : {ps qs : List ℤ} {m n : Node} {p e p' e' : Point} {x : ℕ} → EndsRead ps m p e → EndsRead qs n p' e'
-    → x ≡ tested p e p' e' → x ≡ tested (start_of ps m) (end_of ps m) (start_of qs n) (end_of qs n)
-tested-read a b h = h ∙ (λ i. tested (a.starts i) (a.ends i) (b.starts i) (b.ends i))
-
--- what is done with rows that were read
-pub compared-read : (ps qs : List ℤ) (n : Pair) {r r' q q' : Row} {x : ℕ} → r ≡ r' → q ≡ q' → x ≡ compared ps r qs q n
-    → x ≡ compared ps r' qs q' n
-compared-read ps qs n e f h = h ∙ (λ i. compared ps (e i) qs (f i) n)
 
 -- ---------------- a good row tells its node
 pub range-read : (ps : List ℤ) (r : Row) (first last : ℕ) → T (good ps r first last)
@@ -85,15 +61,14 @@ module _ {ps t : List ℤ} {n : Node} (h : NodeStands ps t n) where
     last-above = subst (λ (z : ℤ). pos 0 ≤ℤ z) (sym range.1) (omega zarith);
   }
 
--- a number with the rows of a pair tells the pair
-pub pair-told : {ps t qs t' : List ℤ} {n : Pair} {rows : ℕ} → PairStands ps t qs t' n
-    → rows ≡ row_of_both n.a.row n.b.row → pair_in t t' rows ≡ n
-pair-told {t} {t'} {n} {rows} h is =
-    let small = row_small h.of-b.stands in
-    let a : row_a rows ≡ n.a.row = omega (arith, is, small) in
-    let b : row_b rows ≡ n.b.row = omega (arith, is, small) in
-    let of-a = ap (node_in t) a ∙ node-told h.of-a in
-    let of-b = ap (node_in t') b ∙ node-told h.of-b in
+-- the rows of a pair tell the pair
+abbrev pub rows_of : Pair → Rows
+rows_of n = record { a = n.a.row; b = n.b.row }
+
+pub pair-told : {ps t qs t' : List ℤ} {n : Pair} → PairStands ps t qs t' n → pair_in t t' (rows_of n) ≡ n
+pair-told h =
+    let of-a = node-told h.of-a in
+    let of-b = node-told h.of-b in
     λ i. record { a = of-a i; b = of-b i }
 
 module _ {ps : List ℤ} {r : Row} {n : Node} (d : Read ps r n) where
@@ -103,13 +78,13 @@ module _ {ps : List ℤ} {r : Row} {n : Node} (d : Read ps r n) where
   start-on : OnSheet (start_of ps n)
   start-on = on-sheet (start_of ps n) told.start-on
 
-  end_on : OnSheet (end_of ps n)
-  end_on = on-sheet (end_of ps n) told.end_on
+  end-on : OnSheet (end_of ps n)
+  end-on = on-sheet (end_of ps n) told.end_on
 
   pub placed : Placed r (start_of ps n) (end_of ps n)
   placed = record {
     start-on = start-on;
-    end_on = end_on;
+    end_on = end-on;
     box-on = record {
       xmin-in = between-abs _ r.xmin told.xmin-in;
       xmax-in = between-abs _ r.xmax told.xmax-in;
@@ -119,11 +94,12 @@ module _ {ps : List ℤ} {r : Row} {n : Node} (d : Read ps r n) where
   }
 
   -- so for the points that were read
-  pub ends_on : {start end : Point} → EndsRead ps n start end → OnSheet start × OnSheet end
-  ends_on e = (subst OnSheet (sym e.starts) start-on, subst OnSheet (sym e.ends) end_on)
+  module _ {start end : Point} (starts : start ≡ start_of ps n) (ends : end ≡ end_of ps n) where
+    pub ends_on : OnSheet start × OnSheet end
+    ends_on = (subst OnSheet (sym starts) start-on, subst OnSheet (sym ends) end-on)
 
-  pub placed_at : {start end : Point} → EndsRead ps n start end → Placed r start end
-  placed_at e = subst₂ (Placed r) (sym e.starts) (sym e.ends) placed
+    pub placed_at : Placed r start end
+    placed_at = subst₂ (Placed r) (sym starts) (sym ends) placed
 
   -- the split of a node that is no leaf is a number of points ..
   pub has_split : HasSplit r n

@@ -3,8 +3,6 @@
 use mathlib.Core.Path.{◌≡◌, refl, sym, subst₂}
 use mathlib.Core.Bool.{Bool, true, false, not, cond, ◌&&◌}
 use mathlib.Core.List.{List}
-use Prim.Native.Nat.{ℕ, ◌≤◌}
-use native.Mathlib.Omega.{arith}
 use lib.Dec.{T, leb, leb→le, nleb→lt}
 use lib.IntN.{ℤ}
 use Rattle.integers.specs.Order.{yes-T}
@@ -17,11 +15,13 @@ use Rattle.rules.specs.Walk.{Visit, refuse, finish, pass}
 use Rattle.rules.specs.Questions.{Nothing, leaf, size, split_in, start_of, end_of, meet_visit}
 use Rattle.visits.specs.Nodes.{RowGood}
 use Rattle.visits.proofs.Nodes.{larger-opens, other-opens}
+use Rattle.meet_visit.specs.declared.Does.{Does}
+use Rattle.meet_visit.specs.declared.Does.TheVariants.{Finishes, Passes, Halves}
 use Rattle.meet_visit.specs.declared.Step.{Step}
 use Rattle.meet_visit.specs.declared.Step.TheVariants.{HalveA, HalveB}
 use Rattle.meet_visit.specs.Pairs.{good_at, NodeStands, Read}
 use Rattle.meet_visit.specs.Steps.{step_visit, SplitsInside, opened}
-use Rattle.meet_visit.specs.Steps.{FINISHES, PASSES, HALVES, nodes_apart, compared}
+use Rattle.meet_visit.specs.Steps.{nodes_apart, compared}
 use Rattle.meet_visit.proofs.GoodRows.{read_of, split-inside}
 
 -- the definition of a visit, in its parts: the segments of two leaves share a point; the pair is not dismissed; and all
@@ -38,58 +38,42 @@ abbrev pub compared_visit : List ℤ → Row → List ℤ → Row → Pair → V
 compared_visit ps r qs q n = cond (nodes_apart ps r qs q n) (pass (λ k. k)) (kept_visit ps r qs q n)
 
 -- a step is such a visit, and splits inside
-abbrev pub Halves : Pair → Step → Visit Nothing Pair → Type 0
-Halves n o v = (step_visit n o ≡ v) × SplitsInside n o
+abbrev pub Splits : Pair → Step → Visit Nothing Pair → Type 0
+Splits n o v = (step_visit n o ≡ v) × SplitsInside n o
 
 by_side : (n : Pair) (b : Bool) (s s' : Step) (v v' : Visit Nothing Pair)
-    → (T b → Halves n s v) → (T (not b) → Halves n s' v') → Halves n (cond b s s') (cond b v v')
+    → (T b → Splits n s v) → (T (not b) → Splits n s' v') → Splits n (cond b s s') (cond b v v')
 by_side n true s s' v v' h k = h tt
 by_side n false s s' v v' h k = k tt
 
--- what a number says of such a visit; a pair is halved by this step, and is not two leaves
-pub record Does (n : Pair) (o : Step) (d : ℕ) (v : Visit Nothing Pair) : Type 0 where
-  pub finishes : d ≡ FINISHES → finish ≡ v
-  pub passes : d ≡ PASSES → pass (λ k. k) ≡ v
-  pub halves : d ≡ HALVES → Halves n o v
-  pub no-leaves : d ≡ HALVES → T (not (leaf n.a && leaf n.b))
+-- what a word says of such a visit; a pair is halved by this step, and is not two leaves
+pub record Says (n : Pair) (o : Step) (d : Does) (v : Visit Nothing Pair) : Type 0 where
+  pub finishes : d ≡ Finishes → finish ≡ v
+  pub passes : d ≡ Passes → pass (λ k. k) ≡ v
+  pub halves : d ≡ Halves → Splits n o v × T (not (leaf n.a && leaf n.b))
 
-by-test : {n : Pair} {o : Step} (b : Bool) {d d' : ℕ} {v v' : Visit Nothing Pair}
-    → (T b → Does n o d v) → (T (not b) → Does n o d' v') → Does n o (cond b d d') (cond b v v')
+by-test : {n : Pair} {o : Step} (b : Bool) {d d' : Does} {v v' : Visit Nothing Pair}
+    → (T b → Says n o d v) → (T (not b) → Says n o d' v') → Says n o (cond b d d') (cond b v v')
 by-test true h k = h tt
 by-test false h k = k tt
 
-does-finish : {n : Pair} {o : Step} → Does n o FINISHES finish
-does-finish = record {
-  finishes = λ _. refl;
-  passes = λ e. absurd (omega arith);
-  halves = λ e. absurd (omega arith);
-  no-leaves = λ e. absurd (omega arith);
-}
+says-finish : {n : Pair} {o : Step} → Says n o Finishes finish
+says-finish = record { finishes = λ _. refl; passes = λ e. cc; halves = λ e. cc }
 
-does-pass : {n : Pair} {o : Step} → Does n o PASSES (pass (λ k. k))
-does-pass = record {
-  finishes = λ e. absurd (omega arith);
-  passes = λ _. refl;
-  halves = λ e. absurd (omega arith);
-  no-leaves = λ e. absurd (omega arith);
-}
+says-pass : {n : Pair} {o : Step} → Says n o Passes (pass (λ k. k))
+says-pass = record { finishes = λ e. cc; passes = λ _. refl; halves = λ e. cc }
 
 module _ {ps qs : List ℤ} {r q : Row} (n : Pair) (a : Read ps r n.a) (b : Read qs q n.b) where
-  does-halve : {v : Visit Nothing Pair} → T (not (leaf n.a && leaf n.b)) → Halves n (opened r q n) v
-      → Does n (opened r q n) HALVES v
-  does-halve u h = record {
-    finishes = λ e. absurd (omega arith);
-    passes = λ e. absurd (omega arith);
-    halves = λ _. h;
-    no-leaves = λ _. u;
-  }
+  says-halve : {v : Visit Nothing Pair} → T (not (leaf n.a && leaf n.b)) → Splits n (opened r q n) v
+      → Says n (opened r q n) Halves v
+  says-halve u h = record { finishes = λ e. cc; passes = λ e. cc; halves = λ _. (h, u) }
 
-  pub compared-does : Does n (opened r q n) (compared ps r qs q n) (compared_visit ps r qs q n)
-  compared-does =
-      by-test (nodes_apart ps r qs q n) (λ _. does-pass)
+  pub compared-says : Says n (opened r q n) (compared ps r qs q n) (compared_visit ps r qs q n)
+  compared-says =
+      by-test (nodes_apart ps r qs q n) (λ _. says-pass)
       (λ _. by-test (leaf n.a && leaf n.b)
-      (λ _. by-test (sharing ps qs n) (λ _. does-finish) (λ _. does-pass))
-      (λ u. does-halve u (by_side n (leb (size n.b) (size n.a)) _ _ _ _
+      (λ _. by-test (sharing ps qs n) (λ _. says-finish) (λ _. says-pass))
+      (λ u. says-halve u (by_side n (leb (size n.b) (size n.a)) _ _ _ _
       (λ k. (refl, split-inside a (larger-opens n.a n.b u (leb→le _ _ k))))
       (λ k. (refl, split-inside b (other-opens n.a n.b u (nleb→lt _ _ k)))))))
 
@@ -115,22 +99,12 @@ module _ (ps t qs t' : List ℤ) (n : Pair) where
       let g = yes-T (good_at ps t n.a) h in
       let e = yes-T (good_at qs t' n.b) k in sym (λ i. by_rows (g i) (e i))
 
-  -- what a number says that a visit of good rows hands back
-  pub visit-does : {d : ℕ} → NodeStands ps t n.a → NodeStands qs t' n.b
+  -- what a word says that a visit of good rows hands back
+  pub visit-says : {d : Does} → NodeStands ps t n.a → NodeStands qs t' n.b
       → let r = row_at t n.a.row in
-      let q = row_at t' n.b.row in d ≡ compared ps r qs q n → Does n (opened r q n) d (meet_visit ps t qs t' n)
-  visit-does h k e =
+      let q = row_at t' n.b.row in d ≡ compared ps r qs q n → Says n (opened r q n) d (meet_visit ps t qs t' n)
+  visit-says h k e =
       let r = row_at t n.a.row in
       let q = row_at t' n.b.row in
-      let does = compared-does n (read_of h refl) (read_of k refl) in
-      subst₂ (Does n (opened r q n)) (sym e) (both-good h.row-good k.row-good) does
-
--- a visit that neither finishes nor passes halves a node
-pub else-halves : (ps : List ℤ) (r : Row) (qs : List ℤ) (q : Row) (n : Pair) → compared ps r qs q n ≤ HALVES
-else-halves ps r qs q n = by (nodes_apart ps r qs q n) (leaf n.a && leaf n.b) (sharing ps qs n)
-  where
-    by : (x y z : Bool) → cond x PASSES (cond y (cond z FINISHES PASSES) HALVES) ≤ HALVES
-    by true y z = omega arith
-    by false true true = omega arith
-    by false true false = omega arith
-    by false false z = omega arith
+      let says = compared-says n (read_of h refl) (read_of k refl) in
+      subst₂ (Says n (opened r q n)) (sym e) (both-good h.row-good k.row-good) says

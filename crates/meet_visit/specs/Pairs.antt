@@ -1,5 +1,5 @@
 -- What the functions of `meet_visit` may count on: nodes that lie inside their lines and tables, with good rows.
-use Rattle.std.specs.Prelude.{Bool, List, ℕ, ◌+◌, ◌*◌, ◌/◌, ◌%◌, ◌^◌, ◌<◌, ◌≤◌, T, ℤ, pos, nat_abs, length, ◌≤ℤ◌}
+use Rattle.std.specs.Prelude.{Bool, List, ℕ, ◌+◌, ◌*◌, ◌<◌, ◌≤◌, T, ℤ, pos, nat_abs, length, ◌≤ℤ◌}
 use Rattle.rules.specs.declared.Node.{Node}
 use Rattle.rules.specs.declared.Pair.{Pair}
 use Rattle.rules.specs.declared.Row.{Row}
@@ -7,6 +7,7 @@ use Rattle.rules.specs.Tree.{width, row_at}
 use Rattle.rules.specs.Rows.{good}
 use Rattle.visits.specs.Nodes.{RowGood}
 use Rattle.row.specs.Stands.{Stands}
+use Rattle.meet_visit.specs.declared.Rows.{Rows}
 
 -- whether the row of a node is good
 abbrev pub good_at : List ℤ → List ℤ → Node → Bool
@@ -23,25 +24,12 @@ pub record PairStands (ps t qs t' : List ℤ) (n : Pair) : Type 0 where
   pub of-b : NodeStands qs t' n.b
 
 -- ---------------- a pair as the rows of its nodes
--- two rows in one number: A's above, B's in the 32 bits below
-abbrev pub half : ℕ
-half = 2 ^ 32
-
-abbrev pub row_of_both : ℕ → ℕ → ℕ
-row_of_both a b = a * half + b
-
-abbrev pub row_a : ℕ → ℕ
-row_a rows = rows / half
-
-abbrev pub row_b : ℕ → ℕ
-row_b rows = rows % half
-
 -- the node that a row tells of
 abbrev pub node_in : List ℤ → ℕ → Node
 node_in t row = record { row = row; first = nat_abs (row_at t row).first; last = nat_abs (row_at t row).last }
 
-abbrev pub pair_in : List ℤ → List ℤ → ℕ → Pair
-pair_in t t' rows = record { a = node_in t (row_a rows); b = node_in t' (row_b rows) }
+abbrev pub pair_in : List ℤ → List ℤ → Rows → Pair
+pair_in t t' rows = record { a = node_in t rows.a; b = node_in t' rows.b }
 
 -- a row is in its table, and its range is one of numbers of points
 pub record TellsNode (t : List ℤ) (row : ℕ) : Type 0 where

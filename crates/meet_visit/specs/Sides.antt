@@ -6,15 +6,13 @@ use Rattle.rules.specs.declared.Node.{Node}
 use Rattle.rules.specs.declared.Pair.{Pair}
 use Rattle.rules.specs.Questions.{left_of, right_of}
 use Rattle.visits.specs.Nodes.{Inner}
-
-pub data Side : Type 0 where
-  side_a : Side
-  side_b : Side
+use Rattle.meet_visit.specs.declared.Side.{Side}
+use Rattle.meet_visit.specs.declared.Side.TheVariants.{OfA, OfB}
 
 -- of two, the one on that side; the line there, and the node of a pair
 abbrev pub on : {X : Type 0} → Side → X → X → X
-on side_a x y = x
-on side_b x y = y
+on OfA x y = x
+on OfB x y = y
 
 abbrev pub line_on : Side → Line
 line_on k = on k LineA LineB
@@ -24,8 +22,8 @@ node_on k n = on k n.a n.b
 
 -- the pair with another node on that side
 abbrev pub with_node : Side → Pair → Node → Pair
-with_node side_a n m = record { a = m; b = n.b }
-with_node side_b n m = record { a = n.a; b = m }
+with_node OfA n m = record { a = m; b = n.b }
+with_node OfB n m = record { a = n.a; b = m }
 
 -- its halves, where that node is halved
 abbrev pub left_on : Side → Pair → ℕ → Pair

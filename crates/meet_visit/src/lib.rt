@@ -4,11 +4,11 @@
 
 ghost use Rattle.std.specs.Prelude.{◌≡◌, not, ◌&&◌, ◌<◌, T};
 ghost use Rattle.rules.specs.Sheet.{most};
-ghost use Rattle.rules.specs.Tree.{most_rows, row_at};
+ghost use Rattle.rules.specs.Tree.{row_at};
 ghost use Rattle.rules.specs.Questions.{leaf};
 ghost use Rattle.limits.specs.Small.{OnSheet};
 ghost use Rattle.meet_visit.specs.Pairs.{HasSplit, Read, PairStands};
-ghost use Rattle.meet_visit.specs.Pairs.{row_of_both, row_a, row_b, TellsNode, node_in, pair_in};
+ghost use Rattle.meet_visit.specs.Pairs.{TellsNode, node_in, pair_in};
 ghost use Rattle.meet_visit.specs.Steps.{tested, opened, compared};
 
 use apart::segments::share;
@@ -17,43 +17,47 @@ use line::point_at;
 use row::{row_at, split_of};
 use rules::{Node, Pair, Point, Row};
 
-// What one visit does, as a number that it hands back in a register: a yes,
-pub const FINISHES: u32 = 0;
+// What is asked of a line: its points and its table.
+#[derive(Clone, Copy)]
+pub struct Tree<'a> {
+    pub points: &'a [i64],
+    pub table: &'a [i64],
+}
 
-// nothing shared,
-pub const PASSES: u32 = 1;
+// Both lines. A walk hands them on by one reference.
+#[derive(Clone, Copy)]
+pub struct Lines<'a> {
+    pub a: Tree<'a>,
+    pub b: Tree<'a>,
+}
 
-// or the node with more segments is halved.
-const HALVES: u32 = 2;
+// The sides of a pair: what is line A's, and what is line B's.
+#[derive(Clone, Copy)]
+pub enum Side {
+    OfA,
+    OfB,
+}
+
+// The rows of a pair's nodes, by which a walk hands a pair on: what a pair is stands in its rows.
+#[derive(Clone, Copy)]
+pub struct Rows {
+    pub a: usize,
+    pub b: usize,
+}
+
+// What one visit does: a yes, nothing shared, or the node with more segments is halved.
+#[derive(Clone, Copy)]
+pub enum Does {
+    Finishes,
+    Passes,
+    Halves,
+}
 
 // The node that is halved, and its split.
-#[derive(Drop)]
+#[derive(Clone, Copy)]
 pub enum Step {
     HalveA(usize),
     HalveB(usize),
-}
-
-// A's row stands above B's, which has the 32 bits below.
-const HALF: u64 = 1 << 32;
-
-// The rows of a pair are one number, which is handed on in a register: what a pair is stands in its rows.
-pub fn pack_rows(a: usize, b: usize) -> u64
-    requires { (a < most_rows) × (b < most_rows) }
-    ensures { result ≡ row_of_both a b }
-{
-    a as u64 * HALF + b as u64
-}
-
-fn row_of_a(rows: u64) -> usize
-    ensures { result ≡ row_a rows }
-{
-    (rows / HALF) as usize
-}
-
-fn row_of_b(rows: u64) -> usize
-    ensures { result ≡ row_b rows }
-{
-    (rows % HALF) as usize
 }
 
 // The node that a good row tells of.
@@ -70,12 +74,12 @@ fn node_at(table: &[i64], row: usize) -> Node
 }
 
 // The pair that good rows tell of.
-pub fn pair_at(table_a: &[i64], table_b: &[i64], rows: u64) -> Pair
-    requires { TellsNode table_a.now (row_a rows) × TellsNode table_b.now (row_b rows) }
+pub fn pair_at(table_a: &[i64], table_b: &[i64], rows: Rows) -> Pair
+    requires { TellsNode table_a.now rows.a × TellsNode table_b.now rows.b }
     ensures { result ≡ pair_in table_a.now table_b.now rows }
 {
-    let a = node_at(table_a, row_of_a(rows));
-    let b = node_at(table_b, row_of_b(rows));
+    let a = node_at(table_a, rows.a);
+    let b = node_at(table_b, rows.b);
     Pair { a, b }
 }
 
@@ -101,18 +105,18 @@ fn both_leaves(a: Node, b: Node) -> bool
 }
 
 // Two leaves get the exact test.
-fn test(a: Point, b: Point, c: Point, d: Point) -> u32
+fn test(a: Point, b: Point, c: Point, d: Point) -> Does
     requires { OnSheet a × OnSheet b × OnSheet c × OnSheet d }
     ensures { result ≡ tested a b c d }
 {
     if share(a, b, c, d) {
-        return FINISHES;
+        return Does::Finishes;
     }
-    PASSES
+    Does::Passes
 }
 
 // What is done with two good rows.
-fn compare(points_a: &[i64], row_a: Row, points_b: &[i64], row_b: Row, pair: Pair) -> u32
+fn compare(points_a: &[i64], row_a: Row, points_b: &[i64], row_b: Row, pair: Pair) -> Does
     requires { Read points_a.now row_a pair.a × Read points_b.now row_b pair.b }
     ensures { result ≡ compared points_a.now row_a points_b.now row_b pair }
 {
@@ -123,34 +127,29 @@ fn compare(points_a: &[i64], row_a: Row, points_b: &[i64], row_b: Row, pair: Pai
     let start_b = point_at(points_b, b.first);
     let end_b = point_at(points_b, b.last);
     if apart(row_a, start_a, end_a, row_b, start_b, end_b) {
-        return PASSES;
+        return Does::Passes;
     }
     if both_leaves(a, b) {
         return test(start_a, end_a, start_b, end_b);
     }
-    HALVES
+    Does::Halves
 }
 
 // One visit of a pair whose rows are known to be good. What it works with is gone when a half is walked from: it takes
 // no room on the stack of the walk.
-pub fn visit(
-    points_a: &&[i64],
-    table_a: &&[i64],
-    points_b: &&[i64],
-    table_b: &&[i64],
-    rows: u64,
-) -> u32
-    requires { PairStands points_a.now.now table_a.now.now points_b.now.now table_b.now.now
-        (pair_in table_a.now.now table_b.now.now rows) }
+pub fn visit(lines: &Lines, rows: Rows) -> Does
+    requires { PairStands lines.now.a.points.now lines.now.a.table.now
+        lines.now.b.points.now lines.now.b.table.now
+        (pair_in lines.now.a.table.now lines.now.b.table.now rows) }
     ensures { result
-        ≡ compared points_a.now.now (row_at table_a.now.now (row_a rows))
-        points_b.now.now (row_at table_b.now.now (row_b rows))
-        (pair_in table_a.now.now table_b.now.now rows) }
+        ≡ compared lines.now.a.points.now (row_at lines.now.a.table.now rows.a)
+        lines.now.b.points.now (row_at lines.now.b.table.now rows.b)
+        (pair_in lines.now.a.table.now lines.now.b.table.now rows) }
 {
-    let pair = pair_at(*table_a, *table_b, rows);
+    let pair = pair_at(lines.a.table, lines.b.table, rows);
     let a = pair.a;
     let b = pair.b;
-    let row_a = row_at(*table_a, a.row);
-    let row_b = row_at(*table_b, b.row);
-    compare(*points_a, row_a, *points_b, row_b, pair)
+    let row_a = row_at(lines.a.table, a.row);
+    let row_b = row_at(lines.b.table, b.row);
+    compare(lines.a.points, row_a, lines.b.points, row_b, pair)
 }

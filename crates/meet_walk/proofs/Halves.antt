@@ -1,16 +1,15 @@
 -- A pair is halved on one side: its halves have fewer segments, and are pairs to walk from where the row that is new in
 -- them is good; and what is handed back of them says what the walk comes to. Each law is said once, for either side.
-use mathlib.Core.Path.{◌≡◌, refl, sym, ◌∙◌, subst}
-use mathlib.Core.Bool.{Bool, true, false, not}
+use Rattle.std.specs.Prelude.{Some}
+use mathlib.Core.Path.{◌≡◌, refl, sym, ◌∙◌, ap, subst, subst₂}
+use mathlib.Core.Bool.{Bool, true, false}
 use mathlib.Core.List.{List}
 use Prim.Native.Nat.{ℕ, pred, ◌+◌, ◌*◌, ◌<◌, ◌≤◌}
 use native.Mathlib.Omega.{arith}
-use borrow.Author.Tests.{not-true, not-false}
 use lib.Dec.{T, leb}
 use lib.IntN.{ℤ}
 use Rattle.integers.specs.Order.{T_true}
 use Rattle.rules.specs.declared.Line.TheVariants.{LineA, LineB}
-use Rattle.rules.specs.declared.Next.TheVariants.{Left}
 use Rattle.rules.specs.declared.Node.{Node}
 use Rattle.rules.specs.declared.Pair.{Pair}
 use Rattle.rules.specs.declared.Tally.{Tally}
@@ -21,15 +20,21 @@ use Rattle.rules.specs.Questions.{Nothing, size, left_of, right_of, meet_visit}
 use Rattle.visits.proofs.Nodes.{GoodRow, good-read}
 use Rattle.row.specs.Stands.{Stands, EndsOn}
 use Rattle.row.proofs.Places.{row_small, left-stands, right-stands}
-use Rattle.ending.specs.Ending.{end_in, ENDED, bad_row, bad_second, tally_in, due}
+use Rattle.ending.specs.Ending.{end_in, ENDED, tally_in, due}
 use Rattle.ending.proofs.OneLevel.{Level, says, whole, below, left-stops, right-goes}
 use Rattle.ending.proofs.OneLevel.{bad-left, second-bad-left, bad-right, second-bad-right}
-use Rattle.meet_visit.specs.Sides.{Side, side_a, side_b, on, line_on, node_on, with_node, left_on, right_on}
-use Rattle.meet_visit.specs.Pairs.{good_at, NodeStands, PairStands, row_of_both, pair_in}
+use Rattle.meet_visit.specs.declared.Does.{Does}
+use Rattle.meet_visit.specs.declared.Rows.{Rows}
+use Rattle.meet_visit.specs.declared.Step.{Step}
+use Rattle.meet_visit.specs.declared.Side.{Side}
+use Rattle.meet_visit.specs.declared.Side.TheVariants.{OfA, OfB}
+use Rattle.meet_visit.specs.Sides.{on, line_on, node_on, with_node, left_on, right_on}
+use Rattle.meet_visit.specs.Steps.{opened, compared}
+use Rattle.meet_visit.specs.Pairs.{good_at, NodeStands, PairStands, pair_in}
 use Rattle.meet_visit.proofs.GoodRows.{pair-told}
-use Rattle.meet_visit.proofs.Steps.{bad-a, bad-b}
+use Rattle.meet_visit.proofs.Steps.{Says, Splits, bad-a, bad-b, visit-says}
 use Rattle.meet_walk.specs.Pair.{ahead, segments}
-use Rattle.meet_walk.specs.Walks.{HalvedOn, Walks, WalksOn}
+use Rattle.meet_walk.specs.Walks.{HalvedOn, Opens, Walks, WalksOn, bad_on, rows_with}
 
 -- ---------------- fewer segments: a half has some, and fewer than the pair, so one level less is enough for it
 -- and its rows come later in the tables
@@ -40,10 +45,10 @@ pub record Fewer (m n : Pair) : Type 0 where
 
 fewer-on : {ps t qs t' : List ℤ} (k : Side) {n : Pair} (h : PairStands ps t qs t' n) (m : Node)
     → m.first < m.last → size m < size (node_on k n) → (node_on k n).row < m.row → Fewer (with_node k n m) n
-fewer-on side_a h m some less later =
+fewer-on OfA h m some less later =
     let a = row_small h.of-a.stands in
     let b = row_small h.of-b.stands in record { some = omega arith; less = omega arith; later = omega arith }
-fewer-on side_b h m some less later =
+fewer-on OfB h m some less later =
     let a = row_small h.of-a.stands in
     let b = row_small h.of-b.stands in record { some = omega arith; less = omega arith; later = omega arith }
 
@@ -80,47 +85,62 @@ module _ {ps t qs t' : List ℤ} {n : Pair} (h : PairStands ps t qs t' n) where
 
   -- ---------------- the node on a side, and another in its place
   stands_on : (k : Side) → NodeStands (on k ps qs) (on k t t') (node_on k n)
-  stands_on side_a = h.of-a
-  stands_on side_b = h.of-b
+  stands_on OfA = h.of-a
+  stands_on OfB = h.of-b
 
   with-stands : (k : Side) {m : Node} → NodeStands (on k ps qs) (on k t t') m → PairStands ps t qs t' (with_node k n m)
-  with-stands side_a g = record { of-a = g; of-b = h.of-b }
-  with-stands side_b g = record { of-a = h.of-a; of-b = g }
+  with-stands OfA g = record { of-a = g; of-b = h.of-b }
+  with-stands OfB g = record { of-a = h.of-a; of-b = g }
 
   bad-on : (k : Side) (m : Node) → good_at (on k ps qs) (on k t t') m ≡ false
       → refuse 10 (line_on k) m.row ≡ meet_visit ps t qs t' (with_node k n m)
-  bad-on side_a m e = bad-a ps t qs t' (with_node side_a n m) e
-  bad-on side_b m e = bad-b ps t qs t' (with_node side_b n m) h.of-a.row-good e
+  bad-on OfA m e = bad-a ps t qs t' (with_node OfA n m) e
+  bad-on OfB m e = bad-b ps t qs t' (with_node OfB n m) h.of-a.row-good e
 
--- what a number says of a bad row on a side, and what the walk comes to where a half has one
-abbrev pub bad_on : Side → ℕ
-bad_on k = on k bad_row bad_second
-
+-- what the walk comes to where a half has a bad row
 module _ {ps t : List ℤ} {m : Node} (h : Stands ps t m) (v : Level Nothing Pair) {counted : Tally}
-    (made : next v.tally ≡ Left counted) {l r : Pair} (halves : halve l r ≡ v.does v.node)
+    (made : next v.tally ≡ Some counted) {l r : Pair} (halves : halve l r ≡ v.does v.node)
     (more : 0 < pred v.levels) {ending : ℕ} where
   bad-left-on : (k : Side) → ending ≡ due (next counted) (bad_on k + m.row)
       → refuse 10 (on k v.first v.second) m.row ≡ v.does l → says v v.tally ending ≡ whole v
-  bad-left-on side_a = bad-left v made halves more (row_small h)
-  bad-left-on side_b = second-bad-left v made halves more (row_small h)
+  bad-left-on OfA = bad-left v made halves more (row_small h)
+  bad-left-on OfB = second-bad-left v made halves more (row_small h)
 
   module _ (left : ℕ) (comes : says v counted left ≡ below v l v.count counted)
       (goes : leb ENDED (end_in left) ≡ false) {y : Tally} (tallied : y ≡ tally_in counted.allowance left) where
     bad-right-on : (k : Side) → ending ≡ due (next y) (bad_on k + m.row)
         → refuse 10 (on k v.first v.second) m.row ≡ v.does r → says v v.tally ending ≡ whole v
-    bad-right-on side_a = bad-right v made halves left comes goes tallied more (row_small h)
-    bad-right-on side_b = second-bad-right v made halves left comes goes tallied more (row_small h)
+    bad-right-on OfA = bad-right v made halves left comes goes tallied more (row_small h)
+    bad-right-on OfB = second-bad-right v made halves left comes goes tallied more (row_small h)
+
+-- ---------------- what a visit of a pair whose rows are good does, and the halves where it halves a node
+abbrev step_of : List ℤ → List ℤ → Pair → Step
+step_of t t' n = opened (row_at t n.a.row) (row_at t' n.b.row) n
+
+pub seen : {ps t qs t' : List ℤ} {n : Pair} {d : Does} → PairStands ps t qs t' n
+    → d ≡ compared ps (row_at t n.a.row) qs (row_at t' n.b.row) n → Says n (step_of t t' n) d (meet_visit ps t qs t' n)
+seen h e = visit-says _ _ _ _ _ h.of-a h.of-b e
+
+pub opens : {ps t qs t' : List ℤ} {n m : Pair} {o : Step} → Opens ps t qs t' n → m ≡ n → o ≡ step_of t t' n
+    → PairStands ps t qs t' m × Splits m o (meet_visit ps t qs t' m)
+opens {ps} {t} {qs} {t'} h pair-is step-is =
+    subst₂ (λ (n : Pair) (o : Step). PairStands ps t qs t' n × Splits n o (meet_visit ps t qs t' n))
+    (sym pair-is) (sym step-is) (h.pair-stands, ((seen h.pair-stands (sym h.halves)).halves refl).0)
+
+pub falls-by : {n m : Pair} {k : ℕ} → m ≡ n → 3 * ahead n + 1 ≡ k → 3 * ahead m < k
+falls-by {k} pair-is e = subst (λ (n : Pair). 3 * ahead n < k) (sym pair-is) (omega (arith, e))
 
 -- ---------------- a half that is handed on as its rows
-pub record Handed (ps t qs t' : List ℤ) (m : Pair) (rows : ℕ) : Type 0 where
+pub record Handed (ps t qs t' : List ℤ) (m : Pair) (rows : Rows) : Type 0 where
   pub stands : PairStands ps t qs t' m
   pub told : pair_in t t' rows ≡ m
 
-pub handed : {ps t qs t' : List ℤ} {m : Pair} {rows : ℕ} → PairStands ps t qs t' m
-    → rows ≡ row_of_both m.a.row m.b.row → Handed ps t qs t' m rows
-handed h is = record { stands = h; told = pair-told h is }
+handed : {ps t qs t' : List ℤ} (k : Side) (n : Pair) (m : Node) {rows : Rows} → PairStands ps t qs t' (with_node k n m)
+    → rows ≡ rows_with k n m.row → Handed ps t qs t' (with_node k n m) rows
+handed {t} {t'} OfA n m h e = record { stands = h; told = ap (pair_in t t') e ∙ pair-told h }
+handed {t} {t'} OfB n m h e = record { stands = h; told = ap (pair_in t t') e ∙ pair-told h }
 
-module _ {ps t qs t' : List ℤ} {m : Pair} {rows : ℕ} (h : Handed ps t qs t' m rows) where
+module _ {ps t qs t' : List ℤ} {m : Pair} {rows : Rows} (h : Handed ps t qs t' m rows) where
   -- a walk from there is below one of the pair
   pub falls-to : {n : Pair} {k : ℕ} → Fewer m n → 3 * ahead n ≡ k
       → (3 * ahead (pair_in t t' rows) + 2 < k) × PairStands ps t qs t' (pair_in t t' rows)
@@ -133,8 +153,8 @@ module _ {ps t qs t' : List ℤ} {m : Pair} {rows : ℕ} (h : Handed ps t qs t' 
   walked_to y r w = subst (λ (p : Pair). Walks ps t qs t' p y r) h.told w
 
 -- a row that was asked for is good
-is-good : {g b : Bool} → g ≡ b → not g ≡ false → T b
-is-good said g = T_true (sym said ∙ not-false _ g)
+is-good : {g b : Bool} → g ≡ b → g ≡ true → T b
+is-good said g = T_true (sym said ∙ g)
 
 -- the left half is walked and is over, and this tally follows
 pub record LeftOver {k : Side} {ps t qs t' : List ℤ} {n : Pair} {split : ℕ} (o : HalvedOn k ps t qs t' n split)
@@ -144,80 +164,130 @@ pub record LeftOver {k : Side} {ps t qs t' : List ℤ} {n : Pair} {split : ℕ} 
   pub goes : leb ENDED (end_in left) ≡ false
   pub tallied : following ≡ tally_in counted.allowance left
 
+-- ---------------- the line and the node on a side, as they were taken
+pub record Taken (k : Side) (ps t qs t' : List ℤ) (n : Pair) (points table : List ℤ) (node : Node) : Type 0 where
+  pub points-is : points ≡ on k ps qs
+  pub table-is : table ≡ on k t t'
+  pub node-is : node ≡ node_on k n
+
+pub taken : {k : Side} {ps t qs t' : List ℤ} {n : Pair} {points table : List ℤ} {node : Node}
+    → (points ≡ on k ps qs) × (table ≡ on k t t') → node ≡ node_on k n → Taken k ps t qs t' n points table node
+taken line-is node-is = record { points-is = line-is.0; table-is = line-is.1; node-is = node-is }
+
+module _ {k : Side} {ps t qs t' : List ℤ} {n : Pair} {points table : List ℤ} {node : Node}
+    (x : Taken k ps t qs t' n points table node) where
+  -- what holds of them on the side
+  as-taken : (P : List ℤ → List ℤ → Node → Type 0) → P (on k ps qs) (on k t t') (node_on k n) → P points table node
+  as-taken P h =
+      subst (λ (ps' : List ℤ). P ps' table node) (sym x.points-is)
+      (subst₂ (λ (t'' : List ℤ) (m : Node). P (on k ps qs) t'' m) (sym x.table-is) (sym x.node-is) h)
+
 -- ---------------- the halves on a side
 module _ {k : Side} {ps t qs t' : List ℤ} {n : Pair} {split : ℕ} (o : HalvedOn k ps t qs t' n split) where
-  abbrev points : List ℤ
-  points = on k ps qs
-
-  abbrev table : List ℤ
-  table = on k t t'
-
   abbrev left_node : Node
   left_node = left_of (node_on k n) split
 
   abbrev right_node : Node
   right_node = right_of (node_on k n) split
 
-  pub left-half : Stands points table left_node
+  left-half : Stands (on k ps qs) (on k t t') left_node
   left-half = left-stands (stands_on o.pair-stands k).stands o.inner
 
-  pub right-half : Stands points table right_node
+  right-half : Stands (on k ps qs) (on k t t') right_node
   right-half = right-stands (stands_on o.pair-stands k).stands o.inner
 
-  -- what the row of the node tells, and that of the left half: where they begin and end
-  tells : GoodRow points (row_at table (node_on k n).row) (node_on k n).first (node_on k n).last
-  tells = good-read points _ (node_on k n).first (node_on k n).last (stands_on o.pair-stands k).row-good
-
-  pub left-start : T (on_sheet (point points left_node.first))
-  left-start = tells.start-on
-
-  -- where the row of the left half was asked for and is good, it tells where the right half begins
-  pub right-ends : {g : Bool} → g ≡ good_at points table left_node → not g ≡ false → EndsOn points right_node
-  right-ends said g =
-      let r = good-read points _ left_node.first split (is-good said g) in
-      record { start-on = r.end_on; end_on = tells.end_on }
+  -- what the row of the node tells: where it begins and ends
+  tells : GoodRow (on k ps qs) (row_at (on k t t') (node_on k n).row) (node_on k n).first (node_on k n).last
+  tells = good-read _ _ (node_on k n).first (node_on k n).last (stands_on o.pair-stands k).row-good
 
   pub left-fewer : Fewer (left_on k n split) n
   left-fewer = fewer-on k o.pair-stands left_node o.inner.above (omega (arith, o.inner)) (omega arith)
 
   pub right-fewer : Fewer (right_on k n split) n
-  right-fewer =
-      fewer-on k o.pair-stands right_node o.inner.below (omega (arith, o.inner)) (omega (arith, o.inner))
+  right-fewer = fewer-on k o.pair-stands right_node o.inner.below (omega (arith, o.inner)) (omega arith)
 
-  -- a half is a pair to walk from where its row was asked for and is good
-  pub left-pair : {g : Bool} → g ≡ good_at points table left_node → not g ≡ false
-      → PairStands ps t qs t' (left_on k n split)
-  left-pair said g = with-stands o.pair-stands k (record { stands = left-half; row-good = is-good said g })
+  -- the left half is walked, and stops
+  pub left-stopped : {counted : Tally} (left : ℕ) → Walks ps t qs t' (left_on k n split) counted left
+      → {q : Bool} → q ≡ leb ENDED (end_in left) → q ≡ true → WalksOn ps t qs t' n counted left
+  left-stopped left comes said stop y made f e =
+      left-stops (level_of o.pair-stands y f e) made o.visit left (comes (pred f) (enough left-fewer e))
+      (sym said ∙ stop)
 
-  pub right-pair : {g : Bool} → g ≡ good_at points table right_node → not g ≡ false
-      → PairStands ps t qs t' (right_on k n split)
-  right-pair said g = with-stands o.pair-stands k (record { stands = right-half; row-good = is-good said g })
+  pub left-over : {counted following : Tally} (left : ℕ) → Walks ps t qs t' (left_on k n split) counted left
+      → {q : Bool} → q ≡ leb ENDED (end_in left) → q ≡ false → following ≡ tally_in counted.allowance left
+      → LeftOver o counted following
+  left-over left comes said goes tallied =
+      record { left = left; comes = comes; goes = sym said ∙ goes; tallied = tallied }
 
-  -- ---------------- what is handed back, by how far the halves were walked
-  module _ {counted : Tally} where
-    pub left-bad : {ending : ℕ} {g : Bool} → g ≡ good_at points table left_node → not g ≡ true
-        → ending ≡ due (next counted) (bad_on k + left_node.row) → WalksOn ps t qs t' n counted ending
-    left-bad said g is y made f e =
-        bad-left-on left-half (level_of o.pair-stands y f e) made o.visit (some_level left-fewer e) k is
-        (bad-on o.pair-stands k left_node (sym said ∙ not-true _ g))
+  -- .. or is over: this tally follows, and what the right half comes to is what the pair comes to
+  pub right-comes : {counted following : Tally} → LeftOver o counted following → (ending : ℕ)
+      → Walks ps t qs t' (right_on k n split) following ending → WalksOn ps t qs t' n counted ending
+  right-comes w ending comes y made f e =
+      right-goes (level_of o.pair-stands y f e) made o.visit w.left
+      (w.comes (pred f) (enough left-fewer e)) w.goes w.tallied ending refl
+      (comes (pred f) (enough right-fewer e))
 
-    pub left-stopped : (left : ℕ) → Walks ps t qs t' (left_on k n split) counted left
-        → {q : Bool} → q ≡ leb ENDED (end_in left) → q ≡ true → WalksOn ps t qs t' n counted left
-    left-stopped left comes said stop y made f e =
-        left-stops (level_of o.pair-stands y f e) made o.visit left (comes (pred f) (enough left-fewer e))
-        (sym said ∙ stop)
+  -- ---------------- the same of the line and the node as they were taken
+  module _ {points table : List ℤ} {node : Node} (x : Taken k ps t qs t' n points table node) where
+    asked : (half : Node → Node) {g : Bool} → g ≡ good_at points table (half node)
+        → g ≡ good_at (on k ps qs) (on k t t') (half (node_on k n))
+    asked half said = said ∙ (λ i. good_at (x.points-is i) (x.table-is i) (half (x.node-is i)))
 
-    module _ {following : Tally} (w : LeftOver o counted following) where
-      pub right-bad : {ending : ℕ} {g : Bool} → g ≡ good_at points table right_node → not g ≡ true
-          → ending ≡ due (next following) (bad_on k + right_node.row) → WalksOn ps t qs t' n counted ending
-      right-bad said g is y made f e =
-          bad-right-on right-half (level_of o.pair-stands y f e) made o.visit (some_level right-fewer e)
-          w.left (w.comes (pred f) (enough left-fewer e)) w.goes w.tallied k is
-          (bad-on o.pair-stands k right_node (sym said ∙ not-true _ g))
+    left-at : {g : Bool} → g ≡ good_at points table (left_of node split)
+        → g ≡ good_at (on k ps qs) (on k t t') left_node
+    left-at = asked (λ m. left_of m split)
 
-      pub right-comes : (ending : ℕ) → Walks ps t qs t' (right_on k n split) following ending
+    right-at : {g : Bool} → g ≡ good_at points table (right_of node split)
+        → g ≡ good_at (on k ps qs) (on k t t') right_node
+    right-at = asked (λ m. right_of m split)
+
+    pub left-stands-at : Stands points table (left_of node split)
+    left-stands-at = as-taken x (λ ps' t'' m. Stands ps' t'' (left_of m split)) left-half
+
+    pub right-stands-at : Stands points table (right_of node split)
+    right-stands-at = as-taken x (λ ps' t'' m. Stands ps' t'' (right_of m split)) right-half
+
+    pub left-starts : T (on_sheet (point points node.first))
+    left-starts = as-taken x (λ ps' t'' m. T (on_sheet (point ps' m.first))) tells.start-on
+
+    -- where the row of the left half was asked for and is good, it tells where the right half begins
+    pub right-ends : {g : Bool} → g ≡ good_at points table (left_of node split) → g ≡ true
+        → EndsOn points (right_of node split)
+    right-ends said g =
+        let r = good-read (on k ps qs) _ left_node.first split (is-good (left-at said) g) in
+        as-taken x (λ ps' t'' m. EndsOn ps' (right_of m split))
+        (record { start-on = r.end_on; end_on = tells.end_on })
+
+    -- a half is a pair to walk from where its row was asked for and is good
+    pub left-handed : {g : Bool} {rows : Rows} → g ≡ good_at points table (left_of node split) → g ≡ true
+        → rows ≡ rows_with k n (left_of node split).row → Handed ps t qs t' (left_on k n split) rows
+    left-handed said g e =
+        handed k n left_node
+        (with-stands o.pair-stands k (record { stands = left-half; row-good = is-good (left-at said) g }))
+        (e ∙ (λ i. rows_with k n (left_of (x.node-is i) split).row))
+
+    pub right-handed : {g : Bool} {rows : Rows} → g ≡ good_at points table (right_of node split) → g ≡ true
+        → rows ≡ rows_with k n (right_of node split).row → Handed ps t qs t' (right_on k n split) rows
+    right-handed said g e =
+        handed k n right_node
+        (with-stands o.pair-stands k (record { stands = right-half; row-good = is-good (right-at said) g }))
+        (e ∙ (λ i. rows_with k n (right_of (x.node-is i) split).row))
+
+    -- and where it is bad, that is what the pair comes to
+    module _ {counted : Tally} where
+      pub left-bad : {ending : ℕ} {g : Bool} → g ≡ good_at points table (left_of node split) → g ≡ false
+          → ending ≡ due (next counted) (bad_on k + (left_of node split).row) → WalksOn ps t qs t' n counted ending
+      left-bad said g is y made f e =
+          bad-left-on left-half (level_of o.pair-stands y f e) made o.visit (some_level left-fewer e) k
+          (is ∙ (λ i. due (next counted) (bad_on k + (left_of (x.node-is i) split).row)))
+          (bad-on o.pair-stands k left_node (sym (left-at said) ∙ g))
+
+      pub right-bad : {following : Tally} → LeftOver o counted following → {ending : ℕ} {g : Bool}
+          → g ≡ good_at points table (right_of node split) → g ≡ false
+          → ending ≡ due (next following) (bad_on k + (right_of node split).row)
           → WalksOn ps t qs t' n counted ending
-      right-comes ending comes y made f e =
-          right-goes (level_of o.pair-stands y f e) made o.visit w.left
-          (w.comes (pred f) (enough left-fewer e)) w.goes w.tallied ending refl
-          (comes (pred f) (enough right-fewer e))
+      right-bad {following} w said g is y made f e =
+          bad-right-on right-half (level_of o.pair-stands y f e) made o.visit (some_level right-fewer e)
+          w.left (w.comes (pred f) (enough left-fewer e)) w.goes w.tallied k
+          (is ∙ (λ i. due (next following) (bad_on k + (right_of (x.node-is i) split).row)))
+          (bad-on o.pair-stands k right_node (sym (right-at said) ∙ g))

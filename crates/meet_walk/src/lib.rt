@@ -3,161 +3,169 @@
 // there; `open` goes on from a pair whose visit was made and halves a node.
 #![tactic(auto)]
 
-ghost use Rattle.std.specs.Prelude.{◌≡◌, T};
+ghost use Rattle.std.specs.Prelude.{◌≡◌, ◌+◌, ◌<◌, T};
 ghost use Rattle.rules.specs.Sheet.{point, on_sheet};
-ghost use Rattle.row.specs.Stands.{Stands, EndsOn, node_at};
+ghost use Rattle.rules.specs.Tree.{most_rows};
+ghost use Rattle.rules.specs.Walk.{next};
+ghost use Rattle.row.specs.Stands.{Stands, EndsOn};
+ghost use Rattle.ending.specs.Ending.{due};
 ghost use Rattle.meet_visit.specs.Pairs.{good_at, PairStands, pair_in};
-ghost use Rattle.meet_visit.specs.Sides.{side_a, side_b};
-ghost use Rattle.meet_walk.specs.Walks.{HalvedOn, Opens, Walks, WalksOn};
+ghost use Rattle.meet_visit.specs.Sides.{on, node_on};
+ghost use Rattle.meet_walk.specs.Walks.{HalvedOn, Opens, Walks, WalksOn, bad_on, rows_with};
 
 use ending::{ENDED, EVEN, SPENT, bad_row_due, bad_second_due, pack, stopped, tally_in};
-use meet_visit::{FINISHES, PASSES, Step, open_larger, pack_rows, pair_at, visit};
+use meet_visit::{Does, Lines, Rows, Side, Step, Tree, open_larger, pair_at, visit};
 use row::{good_between, good_from, row_at};
-use rules::{Next, Pair, Tally};
+use rules::{Node, Pair, Tally};
 
-// Whether the row of a left half is good: it begins where its parent begins, on the sheet.
-fn left_good(points: &[i64], table: &[i64], row: usize, first: usize, last: usize) -> bool
-    requires stands { Stands points.now table.now (node_at row first last) }
-    requires t { T (on_sheet (point points.now first)) }
-    ensures { result ≡ good_at points.now table.now (node_at row first last) }
+// The line on one side, and the node of a pair.
+fn tree_on<'a, 'b>(side: Side, lines: &'a Lines<'b>) -> &'a Tree<'b>
+    ensures { (result.now.points.now ≡ on side lines.now.a.points.now lines.now.b.points.now)
+        × (result.now.table.now ≡ on side lines.now.a.table.now lines.now.b.table.now) }
 {
-    good_from(points, row_at(table, row), first, last)
+    match side {
+        Side::OfA => &lines.a,
+        Side::OfB => &lines.b,
+    }
+}
+
+fn node_on(side: Side, pair: Pair) -> Node
+    ensures { result ≡ node_on side pair }
+{
+    match side {
+        Side::OfA => pair.a,
+        Side::OfB => pair.b,
+    }
+}
+
+// The rows of a pair, with another one on that side.
+fn rows_with(side: Side, pair: Pair, row: usize) -> Rows
+    ensures { result ≡ rows_with side pair row }
+{
+    let a = pair.a;
+    let b = pair.b;
+    match side {
+        Side::OfA => Rows { a: row, b: b.row },
+        Side::OfB => Rows { a: a.row, b: row },
+    }
+}
+
+// A visit is due to a bad row of the line on that side.
+fn bad_row_on(side: Side, tally: Tally, row: usize) -> u64
+    requires { row < most_rows }
+    ensures { result ≡ due (next tally) (bad_on side + row) }
+{
+    match side {
+        Side::OfA => bad_row_due(tally, row),
+        Side::OfB => bad_second_due(tally, row),
+    }
+}
+
+// Whether the row of a left half is good: it begins where its parent begins, on the sheet. Inlined, as the next one,
+// for a half would go through memory.
+#[inline(always)]
+fn left_good(tree: &Tree, half: Node) -> bool
+    requires stands { Stands tree.now.points.now tree.now.table.now half }
+    requires t { T (on_sheet (point tree.now.points.now half.first)) }
+    ensures { result ≡ good_at tree.now.points.now tree.now.table.now half }
+{
+    good_from(
+        tree.points,
+        row_at(tree.table, half.row),
+        half.first,
+        half.last,
+    )
 }
 
 // Whether the row of a right half is good: it begins and ends on the sheet.
-fn right_good(points: &[i64], table: &[i64], row: usize, first: usize, last: usize) -> bool
-    requires stands { Stands points.now table.now (node_at row first last) }
-    requires ends_on { EndsOn points.now (node_at row first last) }
-    ensures { result ≡ good_at points.now table.now (node_at row first last) }
+#[inline(always)]
+fn right_good(tree: &Tree, half: Node) -> bool
+    requires stands { Stands tree.now.points.now tree.now.table.now half }
+    requires ends_on { EndsOn tree.now.points.now half }
+    ensures { result ≡ good_at tree.now.points.now tree.now.table.now half }
 {
-    good_between(points, row_at(table, row), first, last)
+    good_between(
+        tree.points,
+        row_at(tree.table, half.row),
+        half.first,
+        half.last,
+    )
 }
 
-// The walk goes on in the halves of A's node, the left half first; a bad row of a half ends it.
-#[cycle(halve_a_halve_b_open_walk)]
-fn halve_a(
-    points_a: &&[i64],
-    table_a: &&[i64],
-    points_b: &&[i64],
-    table_b: &&[i64],
-    pair: Pair,
-    split: usize,
-    counted: Tally,
-) -> u64
-    requires { HalvedOn side_a points_a.now.now table_a.now.now
-        points_b.now.now table_b.now.now pair split }
-    ensures { WalksOn points_a.now.now table_a.now.now
-        points_b.now.now table_b.now.now pair counted result }
+// The walk goes on in the halves of the node on one side, the left half first; a bad row of a half ends it. `open` has
+// it inlined for each side, and it has `walk`: a level of the walk is one frame of the stack, and no side is asked
+// there.
+#[cycle(halve_open_walk)]
+#[inline(always)]
+fn halve(side: Side, lines: &Lines, pair: Pair, split: usize, counted: Tally) -> u64
+    requires { HalvedOn side lines.now.a.points.now lines.now.a.table.now
+        lines.now.b.points.now lines.now.b.table.now pair split }
+    ensures { WalksOn lines.now.a.points.now lines.now.a.table.now
+        lines.now.b.points.now lines.now.b.table.now pair counted result }
 {
-    let a = pair.a;
-    let b = pair.b;
-    let next_row = a.row + 1;
-    if !left_good(*points_a, *table_a, next_row, a.first, split) {
-        return bad_row_due(counted, next_row);
+    let node = node_on(side, pair);
+    let tree = tree_on(side, lines);
+    let left = Node {
+        row: node.row + 1,
+        last: split,
+        ..node
+    };
+    if !left_good(tree, left) {
+        return bad_row_on(side, counted, left.row);
     }
-    let left_rows = pack_rows(next_row, b.row);
-    let left = walk(points_a, table_a, points_b, table_b, left_rows, counted);
-    if stopped(left) {
-        return left;
+    let ending = walk(lines, rows_with(side, pair, left.row), counted);
+    if stopped(ending) {
+        return ending;
     }
-    let right = a.row + 2 * (split - a.first);
-    let next = tally_in(counted.allowance, left);
-    if !right_good(*points_a, *table_a, right, split, a.last) {
-        return bad_row_due(next, right);
+    let next = tally_in(counted.allowance, ending);
+    let right = Node {
+        row: node.row + 2 * (split - node.first),
+        first: split,
+        ..node
+    };
+    if !right_good(tree, right) {
+        return bad_row_on(side, next, right.row);
     }
-    let right_rows = pack_rows(right, b.row);
-    walk(points_a, table_a, points_b, table_b, right_rows, next)
-}
-
-// The walk goes on in the halves of B's node, the left half first; a bad row of a half ends it.
-#[cycle(halve_a_halve_b_open_walk)]
-fn halve_b(
-    points_a: &&[i64],
-    table_a: &&[i64],
-    points_b: &&[i64],
-    table_b: &&[i64],
-    pair: Pair,
-    split: usize,
-    counted: Tally,
-) -> u64
-    requires { HalvedOn side_b points_a.now.now table_a.now.now
-        points_b.now.now table_b.now.now pair split }
-    ensures { WalksOn points_a.now.now table_a.now.now
-        points_b.now.now table_b.now.now pair counted result }
-{
-    let a = pair.a;
-    let b = pair.b;
-    let next_row = b.row + 1;
-    if !left_good(*points_b, *table_b, next_row, b.first, split) {
-        return bad_second_due(counted, next_row);
-    }
-    let left_rows = pack_rows(a.row, next_row);
-    let left = walk(points_a, table_a, points_b, table_b, left_rows, counted);
-    if stopped(left) {
-        return left;
-    }
-    let right = b.row + 2 * (split - b.first);
-    let next = tally_in(counted.allowance, left);
-    if !right_good(*points_b, *table_b, right, split, b.last) {
-        return bad_second_due(next, right);
-    }
-    let right_rows = pack_rows(a.row, right);
-    walk(points_a, table_a, points_b, table_b, right_rows, next)
+    walk(lines, rows_with(side, pair, right.row), next)
 }
 
 // The walk goes on from a pair whose visit was made and halves the node with more segments.
-#[cycle(halve_a_halve_b_open_walk)]
-pub fn open(
-    points_a: &&[i64],
-    table_a: &&[i64],
-    points_b: &&[i64],
-    table_b: &&[i64],
-    rows: u64,
-    counted: Tally,
-) -> u64
-    requires { Opens points_a.now.now table_a.now.now points_b.now.now table_b.now.now
-        (pair_in table_a.now.now table_b.now.now rows) }
-    ensures { WalksOn points_a.now.now table_a.now.now
-        points_b.now.now table_b.now.now
-        (pair_in table_a.now.now table_b.now.now rows) counted result }
+#[cycle(halve_open_walk)]
+pub fn open(lines: &Lines, rows: Rows, counted: Tally) -> u64
+    requires { Opens lines.now.a.points.now lines.now.a.table.now
+        lines.now.b.points.now lines.now.b.table.now
+        (pair_in lines.now.a.table.now lines.now.b.table.now rows) }
+    ensures { WalksOn lines.now.a.points.now lines.now.a.table.now
+        lines.now.b.points.now lines.now.b.table.now
+        (pair_in lines.now.a.table.now lines.now.b.table.now rows) counted result }
 {
-    let pair = pair_at(*table_a, *table_b, rows);
-    let a = pair.a;
-    let b = pair.b;
-    let row_a = row_at(*table_a, a.row);
-    let row_b = row_at(*table_b, b.row);
+    let pair = pair_at(lines.a.table, lines.b.table, rows);
+    let row_a = row_at(lines.a.table, rows.a);
+    let row_b = row_at(lines.b.table, rows.b);
     match open_larger(row_a, row_b, pair) {
-        Step::HalveA(split) => halve_a(points_a, table_a, points_b, table_b, pair, split, counted),
-        Step::HalveB(split) => halve_b(points_a, table_a, points_b, table_b, pair, split, counted),
+        Step::HalveA(split) => halve(Side::OfA, lines, pair, split, counted),
+        Step::HalveB(split) => halve(Side::OfB, lines, pair, split, counted),
     }
 }
 
 // The walk from a pair on; a yes ends it. Each visit takes the tally and gives the next one back. The visit is a call
 // of its own, so that only what a pair is stays on the stack while its halves are walked.
-#[cycle(halve_a_halve_b_open_walk)]
-fn walk(
-    points_a: &&[i64],
-    table_a: &&[i64],
-    points_b: &&[i64],
-    table_b: &&[i64],
-    rows: u64,
-    tally: Tally,
-) -> u64
-    requires { PairStands points_a.now.now table_a.now.now points_b.now.now table_b.now.now
-        (pair_in table_a.now.now table_b.now.now rows) }
-    ensures { Walks points_a.now.now table_a.now.now
-        points_b.now.now table_b.now.now
-        (pair_in table_a.now.now table_b.now.now rows) tally result }
+#[cycle(halve_open_walk)]
+#[inline(always)]
+fn walk(lines: &Lines, rows: Rows, tally: Tally) -> u64
+    requires { PairStands lines.now.a.points.now lines.now.a.table.now
+        lines.now.b.points.now lines.now.b.table.now
+        (pair_in lines.now.a.table.now lines.now.b.table.now rows) }
+    ensures { Walks lines.now.a.points.now lines.now.a.table.now
+        lines.now.b.points.now lines.now.b.table.now
+        (pair_in lines.now.a.table.now lines.now.b.table.now rows) tally result }
 {
-    let Next::Left(counted) = tally.visit() else {
+    let Some(counted) = tally.visit() else {
         return pack(0, SPENT);
     };
-    let does = visit(points_a, table_a, points_b, table_b, rows);
-    if does == FINISHES {
-        return pack(counted.visits, ENDED);
+    match visit(lines, rows) {
+        Does::Finishes => pack(counted.visits, ENDED),
+        Does::Passes => pack(counted.visits, EVEN),
+        Does::Halves => open(lines, rows, counted),
     }
-    if does == PASSES {
-        return pack(counted.visits, EVEN);
-    }
-    open(points_a, table_a, points_b, table_b, rows, counted)
 }

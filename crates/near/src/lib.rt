@@ -3,28 +3,32 @@
 #![tactic(auto)]
 
 ghost use Rattle.std.specs.Prelude.{◌≡◌};
-ghost use Rattle.rules.specs.Questions.{near_reply};
+ghost use Rattle.rules.specs.Reply.{checked_refusal, first_refusal};
+ghost use Rattle.rules.specs.Questions.{near_checks, near_reply};
 
-use rules::{Checked, Line, Point, Reply, Tally, refuses};
+use rules::{Line, Point, Refusal, Reply, Tally, refuses};
 
-// Whether z is within the distance of the line: refusals 1, 2, 3, 6, 7 and 8, then the walk.
+// Refusals 1, 2, 3, 6, 7 and 8, in this order.
+fn near_checks(points: &[i64], table: &[i64], z: Point, distance: i64) -> Result<(), Refusal>
+    ensures { checked_refusal result ≡ first_refusal (near_checks points.now table.now z distance) }
+{
+    line::check_lengths(Line::LineA, points, table)?;
+    if !reach::distance_fits(distance) {
+        return Err(line::early(7, Line::NoLine));
+    }
+    if !line::on_sheet(z) {
+        return Err(line::early(8, Line::NoLine));
+    }
+    Ok(())
+}
+
+// Whether z is within the distance of the line: the checks, then the walk.
 pub fn near(points: &[i64], table: &[i64], z: Point, distance: i64, allowance: u32) -> Reply
     ensures { result ≡ near_reply points.now table.now z distance allowance }
 {
-    let checked = line::check_lengths(Line::LineA, points, table);
-    if let Checked::Refused(refusal) = checked {
+    if let Err(refusal) = near_checks(points, table, z, distance) {
         return refuses(refusal);
     }
-    if !reach::distance_fits(distance) {
-        return refuses(line::early(7, Line::NoLine));
-    }
-    if !line::on_sheet(z) {
-        return refuses(line::early(8, Line::NoLine));
-    }
-    let fresh = Tally {
-        allowance,
-        visits: 0,
-    };
-    let ending = near_walk::ask_any(&points, &table, z, distance, fresh);
+    let ending = near_walk::ask_any(&points, &table, z, distance, Tally::fresh(allowance));
     ending::answer(ending, allowance)
 }

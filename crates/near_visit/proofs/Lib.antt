@@ -1,3 +1,2 @@
 -- Laws of NEAR's visits, and that what one does it does by one outcome.
 pub mod Visits
-pub mod Unique

@@ -1,77 +1,59 @@
-// One visit of NEAR: it reads one row, checks it, and dismisses the node, tests its one segment or halves it. What it
-// does is what `rules` writes, for all numbers that the slices can hold.
+// NEAR as a question to the walk: whether a node's strip is more than the distance away from a point, and a segment
+// within it. What it answers is what `rules` writes, for all rows and points of the sheet.
 #![tactic(auto)]
 
-ghost use Rattle.std.specs.Prelude.{◌≡◌, ℕ, ◌<◌, ℤ, pos, ◌*ℤ◌};
-ghost use Rattle.rules.specs.Sheet.{most};
+ghost use Rattle.std.specs.Prelude.{◌≡◌, pos, ◌*ℤ◌};
+ghost use Rattle.integers.specs.Range.{Abs≤};
+ghost use Rattle.rules.specs.Sheet.{farthest};
+ghost use Rattle.rules.specs.Questions.{Nothing};
 ghost use Rattle.limits.specs.Small.{OnSheet};
-ghost use Rattle.visits.specs.Nodes.{HoldsStart};
 ghost use Rattle.reach.specs.Bounds.{ReachFits};
-ghost use Rattle.near_visit.specs.Steps.{leaf_step, inner_step, SplitsInside, Asks, Visits};
+ghost use Rattle.near_visit.specs.Tests.{nothing_counted, near_tests};
 
-use line::{point_at, step};
 use reach::{far_along, far_from, within};
-use row::{frame_good, leaf_good, row_at, split_of, splits_inside};
-use rules::{Node, Point, Row};
+use rules::{Point, Row};
+use walk::Question;
 
-// What one visit does: refused by 10, a yes, nothing near, or the halves at a split.
+// The point that is asked for, and the distance.
 #[derive(Drop)]
-pub enum Step {
-    Bad,
-    Finish,
-    Pass,
-    Halve(usize),
+pub struct Near {
+    pub z: Point,
+    pub distance: i64,
+    ghost on_sheet: { OnSheet z },
+    ghost fits: { Abs≤ farthest distance },
 }
 
-// A leaf whose frame is good: its points differ, so it heads along its step.
-fn leaf_step(r: Row, a: Point, b: Point, z: Point, reach: u64) -> Step
-    requires { HoldsStart r × OnSheet a × OnSheet b × OnSheet z × ReachFits reach }
-    ensures value { (D : ℤ) → pos reach ≡ D *ℤ D → result ≡ leaf_step r a b z D }
-    ensures by_index { (first last : ℕ) → SplitsInside first last result }
-{
-    if !leaf_good(r, a, b) {
-        return Step::Bad;
+impl Near {
+    // The distance squared.
+    fn reach(&self) -> u64
+        ensures squared { pos result ≡ self.now.distance *ℤ self.now.distance }
+        ensures fits { ReachFits result }
+    {
+        (self.distance * self.distance) as u64
     }
-    if far_along(r, a, step(a, b), z, reach) {
-        return Step::Pass;
-    }
-    if within(z, a, b, reach) {
-        return Step::Finish;
-    }
-    Step::Pass
 }
 
-// A node of more segments whose frame is good.
-fn inner_step(r: Row, first: usize, last: usize, a: Point, b: Point, z: Point, reach: u64) -> Step
-    requires first_lt_last { (first < last) × (last < most) }
-    requires holds_start { HoldsStart r × OnSheet a × OnSheet b × OnSheet z × ReachFits reach }
-    ensures value { (D : ℤ) → pos reach ≡ D *ℤ D → result ≡ inner_step r first last a b z D }
-    ensures splits_inside { SplitsInside first last result }
-{
-    if !splits_inside(r, first, last) {
-        return Step::Bad;
-    }
-    if far_from(r, a, b, z, reach) {
-        return Step::Pass;
-    }
-    Step::Halve(split_of(r))
-}
+// NEAR counts nothing.
+impl Question for Near {
+    ghost Count = { Nothing };
 
-// A visit of a node whose ends are known to be on the sheet.
-pub fn visit(points: &[i64], table: &[i64], node: Node, z: Point, reach: u64) -> Step
-    requires { Asks points.now table.now node z reach }
-    ensures { Visits points.now table.now node z reach result }
-{
-    let first = node.first;
-    let last = node.last;
-    let r = row_at(table, node.row);
-    let a = point_at(points, first);
-    let b = point_at(points, last);
-    if !frame_good(r, first, last) {
-        return Step::Bad;
+    ghost counting = { nothing_counted };
+
+    ghost tests = { λ s. near_tests s.z s.distance };
+
+    fn dismisses(&self, r: Row, a: Point, b: Point) -> bool {
+        far_from(r, a, b, self.z, self.reach())
     }
-    if last <= first + 1 {
-        return leaf_step(r, a, b, z, reach);
+
+    fn dismisses_along(&self, r: Row, a: Point, u: Point) -> bool {
+        far_along(r, a, u, self.z, self.reach())
     }
-    inner_step(r, first, last, a, b, z, reach)
+
+    fn meets(&self, a: Point, b: Point) -> bool {
+        within(self.z, a, b, self.reach())
+    }
+
+    fn crosses(&self, _a: Point, _b: Point) -> bool {
+        false
+    }
 }

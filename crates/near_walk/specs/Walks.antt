@@ -1,28 +1,19 @@
 -- What the walk is asked for and what it comes to, in the words of the definitions.
-use Rattle.std.specs.Prelude.{◌≡◌, List, ℕ, ◌+◌, ◌≤◌, T, ℤ, pos, ◌*ℤ◌}
+use Rattle.std.specs.Prelude.{◌≡◌, List, ℕ, T, ℤ}
 use Rattle.integers.specs.Range.{Abs≤}
 use Rattle.rules.specs.declared.Line.{Line}
 use Rattle.rules.specs.declared.Point.{Point}
 use Rattle.rules.specs.declared.Tally.{Tally}
 use Rattle.rules.specs.Sheet.{segments_of, farthest}
 use Rattle.rules.specs.Rows.{ends_good}
-use Rattle.rules.specs.Walk.{walk}
-use Rattle.rules.specs.Questions.{near_visit, near_walk}
+use Rattle.rules.specs.Questions.{near_walk}
 use Rattle.visits.specs.Fine.{LengthsFine}
-use Rattle.row.specs.Stands.{node_at}
 use Rattle.ending.specs.Ending.{walked_in}
 
 -- what is asked for: a whole line of good lengths and ends, and a distance that fits
 abbrev pub AsksLine : List ℤ → List ℤ → ℤ → Type 0
 AsksLine ps t D = LengthsFine ps t × T (ends_good ps 0 (segments_of ps)) × Abs≤ farthest D
 
--- r tells how the written walk ends: from a node of at most f segments on, with f levels,
-abbrev pub Walks : List ℤ → List ℤ → ℕ → ℕ → ℕ → ℤ → ℤ → ℕ → Tally → ℕ → Type 0
-Walks ps t row first last x y reach tally r =
-    (l m : Line) (f : ℕ) (D : ℤ) → pos reach ≡ D *ℤ D → last ≤ f + first
-    → walked_in tt tt l m tally.allowance r
-    ≡ walk (near_visit l ps t (record { x = x; y = y }) D) f (node_at row first last) tt tally
-
--- and that of the whole line
+-- r tells how the written walk of the line ends
 abbrev pub Comes : List ℤ → List ℤ → Point → ℤ → Tally → ℕ → Type 0
 Comes ps t z D tally r = (l m : Line) → walked_in tt tt l m tally.allowance r ≡ near_walk l ps t z D tally

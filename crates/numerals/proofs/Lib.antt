@@ -1,3 +1,3 @@
--- Laws of digits, for the proofs of the functions that read them, and that what a field says is one outcome.
+-- Laws of digits, for the proofs of the functions that read them.
 pub mod Digits
 pub mod Unique

@@ -1,3 +1,2 @@
 -- docs/RULES.md, section 7.3: how a field is read as a number.
 pub mod Numerals
-pub mod Read

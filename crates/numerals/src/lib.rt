@@ -2,125 +2,57 @@
 // list of bytes; the functions below it say their results by the definitions of `specs/`.
 #![tactic(auto)]
 
-ghost use Rattle.std.specs.Prelude.{◌≡◌, true, ◌<◌, neg_ℤ, pos};
-ghost use Rattle.numerals.specs.Numerals.{is_digit, all_digits, value_from, good_digits, numeral, in_range, only_if};
-ghost use Rattle.numerals.specs.Read.{number_read, negated};
+ghost use Rattle.std.specs.Prelude.{◌≡◌, true, ◌<◌, pos};
+ghost use Rattle.std.specs.Bool.{then_some};
+ghost use Rattle.numerals.specs.Numerals.{value_from, good_digits, numeral, in_range, only_if};
 
-// A field read as a number.
-#[derive(Drop)]
-pub enum Number {
-    Whole(i64),
-    Nothing,
-}
-
-fn is_digit(b: u8) -> bool
-    ensures { result ≡ is_digit b }
-{
-    b'0' <= b && b <= b'9'
-}
-
-fn all_digits(f: &[u8]) -> bool
-    ensures { result ≡ all_digits f.now }
-{
-    let mut i: usize = 0;
-    while i < f.len() {
-        if !is_digit(f[i]) {
-            return false;
-        }
-        i += 1;
-    }
-    true
-}
+// A number has at most so many digits.
+const MOST_DIGITS: usize = 10;
 
 fn good_digits(f: &[u8]) -> bool
     ensures { result ≡ good_digits f.now }
 {
-    if f.len() < 1 {
-        return false;
+    match f {
+        [] | [b'0', _, ..] => false,
+        _ => f.len() <= MOST_DIGITS && f.iter().all(u8::is_ascii_digit),
     }
-    if 10 < f.len() {
-        return false;
-    }
-    if !all_digits(f) {
-        return false;
-    }
-    if 1 < f.len() {
-        return f[0] != b'0';
-    }
-    true
 }
 
 // The number that good digits write.
+#[tactic(auto, using(crate::proofs::Digits::digits))]
 fn value(f: &[u8]) -> u64
     requires { good_digits f.now ≡ true }
     ensures { (result ≡ value_from 0 f.now) × (result < 10000000000) }
 {
-    let mut v: u64 = 0;
-    let mut i: usize = 0;
-    while i < f.len() {
-        v = 10 * v + (f[i] - b'0') as u64;
-        i += 1;
+    let mut number: u64 = 0;
+    for &digit in f {
+        number = 10 * number + u64::from(digit - b'0');
     }
-    v
+    number
 }
 
-fn plus(v: u64) -> i64
-    requires { v < 10000000000 }
-    ensures { result ≡ pos v }
+// The number that a field writes, or nothing if its bytes are no good digits.
+fn magnitude(f: &[u8]) -> Option<i64>
+    ensures { result ≡ then_some (good_digits f.now) (pos (value_from 0 f.now)) }
 {
-    v as i64
+    good_digits(f).then(|| value(f) as i64)
 }
 
-fn minus(v: u64) -> i64
-    requires { v < 10000000000 }
-    ensures { result ≡ neg_ℤ (pos v) }
+#[tactic(auto, using(crate::proofs::Digits::numerals))]
+fn numeral(f: &[u8]) -> Option<i64>
+    ensures { result ≡ numeral f.now }
 {
-    0 - v as i64
-}
-
-// What follows a minus.
-fn negative(f: &[u8]) -> Number
-    ensures { number_read result ≡ negated f.now }
-{
-    if !good_digits(f) {
-        return Number::Nothing;
+    match f {
+        [b'-', b'0', ..] => None,
+        [b'-', digits @ ..] => Some(-magnitude(digits)?),
+        digits => magnitude(digits),
     }
-    if f[0] == b'0' {
-        return Number::Nothing;
-    }
-    Number::Whole(minus(value(f)))
-}
-
-fn numeral(f: &[u8]) -> Number
-    ensures { number_read result ≡ numeral f.now }
-{
-    if f.len() < 1 {
-        return Number::Nothing;
-    }
-    if f[0] == b'-' {
-        return negative(&f[1..]);
-    }
-    if !good_digits(f) {
-        return Number::Nothing;
-    }
-    Number::Whole(plus(value(f)))
-}
-
-fn in_range(lo: i64, z: i64, hi: i64) -> bool
-    ensures { result ≡ in_range lo hi z }
-{
-    lo <= z && z <= hi
 }
 
 // A number from lo to hi.
-pub fn within(f: &[u8], lo: i64, hi: i64) -> Number
-    ensures { number_read result ≡ only_if (in_range lo hi) (numeral f.now) }
+pub fn within(f: &[u8], lo: i64, hi: i64) -> Option<i64>
+    ensures { result ≡ only_if (in_range lo hi) (numeral f.now) }
 {
-    let Number::Whole(z) = numeral(f) else {
-        return Number::Nothing;
-    };
-    if !in_range(lo, z, hi) {
-        return Number::Nothing;
-    }
-    Number::Whole(z)
+    let z = numeral(f)?;
+    (lo..=hi).contains(&z).then_some(z)
 }

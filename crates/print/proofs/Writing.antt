@@ -1,30 +1,20 @@
--- Bytes written into a slice: none, one byte, and what stands behind bytes that were written already.
-use mathlib.Core.Path.{◌≡◌, refl, sym, ◌∙◌, ap, subst}
-use mathlib.Core.List.{List, [], ◌∷◌, ◌++◌, append_assoc}
-use Prim.Native.Nat.{ℕ, ◌+◌, ◌≤◌, ◌<◌}
-use native.Mathlib.Nat.{add-zero}
-use native.Mathlib.Numerals.{add-one}
+-- Bytes written into a slice: none, and what stands behind bytes that were written already.
+use mathlib.Core.Path.{◌≡◌, ◌∙◌, ap, subst, subst⁻¹}
+use mathlib.Core.List.{List, [], ◌++◌, append_assoc}
+use Prim.Native.Nat.{ℕ, ◌+◌, ◌≤◌}
 use native.Mathlib.Omega.{arith}
-use lib.ListN.{length, take, drop, set, length-append, length-take, take-append-drop}
-use lib.Seq.{length-take-le, take_at, drop_at, drop-drop, take-length, set_split, paste}
+use lib.ListN.{length, take, drop, length-append, length-drop, length-take}
+use lib.Seq.{length-take-le, take_at, drop_at, drop-drop}
+use Rattle.std.proofs.lemmas.Grind.{common_steps}
 use Rattle.print.specs.Put.{Put}
 
 -- The same bytes, said another way.
 pub put_same : {d xs ys e : List ℕ} {at i : ℕ} → xs ≡ ys → Put d at xs e i → Put d at ys e i
 put_same {d} {xs} {ys} {e} {at} {i} same = subst (λ (bytes : List ℕ). Put d at bytes e i) same
 
--- The bytes of one case of a value, where the value is of that case.
-pub put-case : {A : Type 0} (bytes : A → List ℕ) {x y : A} {d e : List ℕ} {at i : ℕ} → x ≡ y → Put d at (bytes y) e i →
-    Put d at (bytes x) e i
-put-case bytes same p = put_same (ap bytes (sym same)) p
-
 -- Nothing written leaves all as it was.
 pub put-none : (d : List ℕ) (at : ℕ) → Put d at [] d at
-put-none d at = record { written = rw add-zero (sym (take-append-drop at d)); behind = omega arith }
-
--- A store writes one byte.
-pub put_one : (d : List ℕ) (at b : ℕ) → at < length d → Put d at (b ∷ []) (set d at b) (at + 1)
-put_one d at b h = record { written = rw (add-one at) (set_split d at b h); behind = refl }
+put-none d at = grind (arith, common_steps)
 
 module _ (d : List ℕ) (at : ℕ) (inside : at ≤ length d) (xs : List ℕ) where
   abbrev head : List ℕ
@@ -65,11 +55,12 @@ module _ {d xs e : List ℕ} {i : ℕ} (p : Put d 0 xs e i) where
   pub put-within : i ≤ length e
   put-within = omega (arith, ap length put_front, length-take i e, p.behind)
 
--- A whole copy writes the bytes copied.
-pub put_all : (d : List ℕ) (at : ℕ) (xs : List ℕ) {e : List ℕ} {n : ℕ} → e ≡ paste d at xs n → n ≡ length xs →
-    Put d at xs e (at + n)
-put_all d at xs {e} {n} copied all =
-    record {
-      written = copied ∙ (λ t. paste d at xs (all t)) ∙ rw (take-length xs) (append_assoc (take at d) xs _);
-      behind = ap (λ (k : ℕ). at + k) all;
-    }
+-- No byte of the slice is lost.
+pub put-size : {d xs e : List ℕ} {at i : ℕ} → Put d at xs e i → length d ≤ length e
+put-size {d} {xs} {at = at} p =
+    let size = ap length p.written ∙ length-append (take at d) (xs ++ drop (at + length xs) d) in
+    omega (arith, length-append xs (drop (at + length xs) d), length-take at d, length-drop (at + length xs) d)
+
+-- What is written is in the slice, however it is called.
+pub put_left : {d xs e f : List ℕ} {at i : ℕ} → f ≡ e → Put d at xs e i → Put d at xs f i
+put_left {d} {xs} {at = at} {i = i} same = subst⁻¹ (λ (left : List ℕ). Put d at xs left i) same

@@ -9,73 +9,99 @@ ghost use Rattle.print.specs.Put.{Put};
 
 use rules::{Line, Reply, Word};
 
-// ---------------- bytes into a slice, from a place on; the answer is the next place
-
-pub fn put_byte(out: &mut [u8], at: usize, byte: u8) -> usize
-    requires { at < length out.old }
-    ensures { Put out.old at (byte ∷ []) out.new result }
-{
-    out[at] = byte;
-    at + 1
+// A slice, and the place from which on it is written.
+#[derive(Drop)]
+struct Printer<'a> {
+    out: &'a mut [u8],
+    at: usize,
 }
 
-pub fn put_bytes(out: &mut [u8], at: usize, bytes: &[u8]) -> usize
-    requires { at + length bytes.now ≤ length out.old }
-    ensures { Put out.old at bytes.now out.new result }
-{
-    let mut i = 0;
-    while i < bytes.len() {
-        out[at + i] = bytes[i];
-        i += 1;
+impl Printer<'_> {
+    // ---------------- bytes, from the place on
+
+    fn byte(&mut self, byte: u8)
+        requires { self.old.at < length self.old.out.now }
+        ensures same_slice { self.new.out.ghost_name ≡ self.old.out.ghost_name }
+        ensures put { Put self.old.out.now self.old.at (byte ∷ []) self.new.out.now self.new.at }
+    {
+        self.out[self.at] = byte;
+        self.at += 1;
     }
-    at + i
-}
 
-// A number in decimal digits: those of its tenth, then its last.
-pub fn put_decimal(out: &mut [u8], at: usize, n: u64) -> usize
-    requires { at + 20 ≤ length out.old }
-    ensures { Put out.old at (decimal n) out.new result }
-{
-    if n < 10 {
-        return put_byte(out, at, 48 + n as u8);
+    fn bytes(&mut self, bytes: &[u8])
+        requires { self.old.at + length bytes.now ≤ length self.old.out.now }
+        ensures same_slice { self.new.out.ghost_name ≡ self.old.out.ghost_name }
+        ensures put { Put self.old.out.now self.old.at bytes.now self.new.out.now self.new.at }
+    {
+        let end = self.at + bytes.len();
+        let out = &mut *self.out;
+        out[self.at..end].copy_from_slice(bytes);
+        self.at = end;
     }
-    let next = put_decimal(out, at, n / 10);
-    put_byte(out, next, 48 + (n % 10) as u8)
+
+    // A number in decimal digits: those of its tenth, then its last.
+    fn decimal(&mut self, n: u64)
+        requires { self.old.at + 20 ≤ length self.old.out.now }
+        ensures same_slice { self.new.out.ghost_name ≡ self.old.out.ghost_name }
+        ensures put { Put self.old.out.now self.old.at (decimal n) self.new.out.now self.new.at }
+    {
+        if 10 <= n {
+            self.decimal(n / 10);
+        }
+        self.byte(b'0' + (n % 10) as u8);
+    }
+
+    // ---------------- fields, each behind its tab
+
+    fn number(&mut self, n: u64)
+        requires { self.old.at + 21 ≤ length self.old.out.now }
+        ensures same_slice { self.new.out.ghost_name ≡ self.old.out.ghost_name }
+        ensures put { Put self.old.out.now self.old.at (9 ∷ decimal n) self.new.out.now self.new.at }
+    {
+        self.byte(b'\t');
+        self.decimal(n);
+    }
+
+    fn word(&mut self, word: Word)
+        requires { self.old.at + 10 ≤ length self.old.out.now }
+        ensures same_slice { self.new.out.ghost_name ≡ self.old.out.ghost_name }
+        ensures put { Put self.old.out.now self.old.at (9 ∷ word_bytes word) self.new.out.now self.new.at }
+    {
+        self.byte(b'\t');
+        self.bytes(name(word));
+    }
+
+    fn letter(&mut self, line: Line)
+        requires { self.old.at + 2 ≤ length self.old.out.now }
+        ensures same_slice { self.new.out.ghost_name ≡ self.old.out.ghost_name }
+        ensures put { Put self.old.out.now self.old.at (9 ∷ line_byte line ∷ []) self.new.out.now self.new.at }
+    {
+        self.byte(b'\t');
+        self.byte(letter(line));
+    }
 }
 
-// ---------------- fields, each behind its tab
-
-fn put_number(out: &mut [u8], at: usize, n: u64) -> usize
-    requires { at + 21 ≤ length out.old }
-    ensures { Put out.old at (9 ∷ decimal n) out.new result }
-{
-    let next = put_byte(out, at, b'\t');
-    put_decimal(out, next, n)
-}
-
-fn put_word(out: &mut [u8], at: usize, word: Word) -> usize
-    requires { at + 10 ≤ length out.old }
-    ensures { Put out.old at (9 ∷ word_bytes word) out.new result }
+fn name(word: Word) -> &'static [u8]
+    ensures { result.now ≡ word_bytes word }
 {
     match word {
-        Word::YES => put_bytes(out, at, b"\tYES"),
-        Word::NO => put_bytes(out, at, b"\tNO"),
-        Word::INSIDE => put_bytes(out, at, b"\tINSIDE"),
-        Word::OUTSIDE => put_bytes(out, at, b"\tOUTSIDE"),
-        Word::ON => put_bytes(out, at, b"\tON"),
-        Word::UNDECIDED => put_bytes(out, at, b"\tUNDECIDED"),
-        Word::REFUSED => put_bytes(out, at, b"\tREFUSED"),
+        Word::YES => b"YES",
+        Word::NO => b"NO",
+        Word::INSIDE => b"INSIDE",
+        Word::OUTSIDE => b"OUTSIDE",
+        Word::ON => b"ON",
+        Word::UNDECIDED => b"UNDECIDED",
+        Word::REFUSED => b"REFUSED",
     }
 }
 
-fn put_letter(out: &mut [u8], at: usize, line: Line) -> usize
-    requires { at + 2 ≤ length out.old }
-    ensures { Put out.old at (9 ∷ line_byte line ∷ []) out.new result }
+fn letter(line: Line) -> u8
+    ensures { result ≡ line_byte line }
 {
     match line {
-        Line::NoLine => put_bytes(out, at, b"\t-"),
-        Line::LineA => put_bytes(out, at, b"\tA"),
-        Line::LineB => put_bytes(out, at, b"\tB"),
+        Line::NoLine => b'-',
+        Line::LineA => b'A',
+        Line::LineB => b'B',
     }
 }
 
@@ -84,13 +110,13 @@ pub fn put_line(out: &mut [u8], at: usize, ordinal: u64, said: Reply) -> usize
     requires { at + widest ≤ length out.old }
     ensures { Put out.old at (printed ordinal said) out.new result }
 {
-    let word = said.word;
-    let line = said.line;
-    let a = put_decimal(out, at, ordinal);
-    let b = put_word(out, a, word);
-    let c = put_number(out, b, said.visits as u64);
-    let d = put_number(out, c, said.number as u64);
-    let e = put_letter(out, d, line);
-    let f = put_number(out, e, said.place as u64);
-    put_byte(out, f, b'\n')
+    let mut printer = Printer { out, at };
+    printer.decimal(ordinal);
+    printer.word(said.word);
+    printer.number(said.visits as u64);
+    printer.number(said.number as u64);
+    printer.letter(said.line);
+    printer.number(said.place as u64);
+    printer.byte(b'\n');
+    printer.at
 }

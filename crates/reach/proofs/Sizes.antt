@@ -58,13 +58,13 @@ module _ {u : Point} {v : ℤ} (small : Small u) (e : v ≡ size² u) where
   size-roomy = magnitude-roomy (ap nat_abs size-stored) (size-wide small) tt
 
 -- ---------------- what v lacks of a range that holds 0 is at most |v|
-pub below-short : {B : ℕ} {lo v : ℤ} → Abs≤ B v → lo ≤ℤ pos 0 → v <ℤ lo → Abs≤ B (lo -ℤ v)
+below-short : {B : ℕ} {lo v : ℤ} → Abs≤ B v → lo ≤ℤ pos 0 → v <ℤ lo → Abs≤ B (lo -ℤ v)
 below-short {B} {lo} {v} h l k =
     let b = abs-lo h in
     abs-of (omega (zarith, PN-add lo (neg_ℤ v), P-neg v, N-neg v, P-neg (pos B), N-neg (pos B)))
     (omega (zarith, PN-add lo (neg_ℤ v), P-neg v, N-neg v, P-neg (pos B), N-neg (pos B)))
 
-pub above-short : {B : ℕ} {hi v : ℤ} → Abs≤ B v → pos 0 ≤ℤ hi → hi <ℤ v → Abs≤ B (v -ℤ hi)
+above-short : {B : ℕ} {hi v : ℤ} → Abs≤ B v → pos 0 ≤ℤ hi → hi <ℤ v → Abs≤ B (v -ℤ hi)
 above-short {B} {hi} {v} h l k =
     let b = abs-hi h in
     abs-of (omega (zarith, PN-add v (neg_ℤ hi), P-neg hi, N-neg hi, P-neg (pos B), N-neg (pos B)))
@@ -76,7 +76,3 @@ shortfall-wide {B} {lo} {hi} {v} h low high =
     cond_ind (lt_z v lo) (lo -ℤ v) (cond (lt_z hi v) (v -ℤ hi) (pos 0)) (Abs≤ B) (λ t. below-short h low (lt_z_yes t))
     (λ t. cond_ind (lt_z hi v) (v -ℤ hi) (pos 0) (Abs≤ B) (λ t. above-short h high (lt_z_yes t))
     (λ t. record { abs = omega zarith }))
-
--- and a difference is not negative
-pub gap-above : {lo hi : ℤ} → lo <ℤ hi → pos 0 ≤ℤ (hi -ℤ lo)
-gap-above {lo} {hi} h = omega (zarith, PN-add hi (neg_ℤ lo), P-neg lo, N-neg lo)

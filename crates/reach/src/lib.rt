@@ -22,7 +22,7 @@ use rules::{Point, Row};
 pub fn distance_fits(d: i64) -> bool
     ensures { result ≡ distance_fits d }
 {
-    0 <= d && d <= FARTHEST
+    (0..=FARTHEST).contains(&d)
 }
 
 // Whether b is more than the distance away from a.
@@ -77,11 +77,12 @@ pub fn far_along(r: Row, s: Point, u: Point, z: Point, reach: u64) -> bool
 }
 
 // The same of a node from a to b. Only a closed run asks for another direction than its step, so it is a branch.
+#[tactic(auto, unfolding(rules::specs::Plane::direction))]
 pub fn far_from(r: Row, a: Point, b: Point, z: Point, reach: u64) -> bool
     requires { HoldsStart r × OnSheet a × OnSheet b × OnSheet z × ReachFits reach }
     ensures { (D : ℤ) → pos reach ≡ D *ℤ D → result ≡ far_from r a (direction a b) z D }
 {
-    if line::same_point(a, b) {
+    if a == b {
         return far_along(r, a, Point { x: 1, y: 0 }, z, reach);
     }
     far_along(r, a, line::step(a, b), z, reach)

@@ -9,23 +9,24 @@ use Rattle.desk.proofs.Chunks.{carry-append}
 use Rattle.desk.proofs.Begun.{begun-again}
 use Rattle.ready.specs.declared.TablesBuilt.{TablesBuilt}
 use Rattle.store.specs.declared.State.{State}
-use Rattle.byte.specs.declared.Fed.{Fed}
 use Rattle.records.specs.Left.{Slices, chunk_left}
 use Rattle.records.specs.Built.{built_in, none_built, chunk_built}
 use Rattle.records.specs.Carried.{Bounds}
 use Rattle.records.proofs.Stay.{none-built, Stay}
-use Rattle.byte.specs.Feeds.{carry_of, Feeds}
+use Rattle.byte.specs.Feeds.{carry_of, Fed, Feeds}
 use Rattle.byte.proofs.Stay.{chunk-stay}
 use Rattle.chunks.proofs.Chunk.{left-append, built-append}
-use Rattle.reading.specs.After.{zeros, After, AfterBytes}
+use Rattle.chunks.specs.Opened.{zeros}
+use Rattle.reading.specs.After.{After, AfterBytes}
 
 -- A state that is opened, with slices of zeros, is what is held past no bytes.
-pub after_none : {s : State} → carry_of s zeros ≡ begun → Bounds s → built_in s ≡ none_built → AfterBytes 0 s zeros
+pub after_none : {s : State} {l : Slices} → l ≡ zeros → carry_of s l ≡ begun → Bounds s → built_in s ≡ none_built →
+    AfterBytes 0 s l
 unfolding carry_chunk chunk_left chunk_built
-after_none {s} e bounds built =
+after_none {s} {l} whole e bounds built =
     let none = ap (λ (c : Carry). c.desk.text_lines) e in
-    let after : After [] s zeros =
-    record { carried = e; left = refl; built = built; bounds = bounds; read = omega arith } in
+    let after : After [] s l =
+    record { carried = e; left = whole; built = built; bounds = bounds; read = omega arith } in
     record { input = []; count = refl; after = after }
 
 -- What more bytes come to is what is held past them too.

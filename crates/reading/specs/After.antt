@@ -1,25 +1,17 @@
 -- What the program holds once bytes are read, however many: its state and the slices are what the definitions carry and
 -- leave past these bytes, from a program that has begun, from slices of zeros, and with no table built.
-use Rattle.std.specs.Prelude.{◌≡◌, List, ℕ, ◌*◌, ◌≤◌, pos, length, replicate}
-use Rattle.desk.specs.Desk.{room}
+use Rattle.std.specs.Prelude.{◌≡◌, List, ℕ, ◌≤◌, length}
 use Rattle.desk.specs.Chunks.{begun, carry_chunk}
-use Rattle.desk.specs.Kept.{table_room, kept_bytes}
 use Rattle.store.specs.declared.State.{State}
-use Rattle.records.specs.Left.{Slices, slices, chunk_left}
+use Rattle.records.specs.Left.{Slices, chunk_left}
 use Rattle.records.specs.Built.{built_in, none_built, chunk_built}
 use Rattle.records.specs.Carried.{Bounds}
 use Rattle.byte.specs.Feeds.{carry_of}
+use Rattle.chunks.specs.Opened.{zeros}
 
 -- the bytes that are read at once
 abbrev pub chunk_bytes : ℕ
 chunk_bytes = 1024
-
--- each line's store starts as all zero; so do the two tables, and the text line that has not ended
-abbrev pub zeros : Slices
-zeros =
-    let store = replicate (2 * room) (pos 0) in
-    let table = replicate table_room (pos 0) in
-    slices store store table table (replicate kept_bytes 0)
 
 -- ---- past these bytes; there are no more text lines than bytes
 pub record After (input : List ℕ) (s : State) (l : Slices) : Type 0 where

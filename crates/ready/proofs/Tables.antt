@@ -11,12 +11,13 @@ use borrow.Author.Tests.{le-ltb}
 use lib.IntN.{ℤ}
 use lib.ListN.{length}
 use lib.Seq.{length-take-le}
+use Rattle.std.specs.Prelude.{Result, Ok, Err, MatchResult, IsErrAnd}
 use Rattle.rules.specs.declared.Line.{Line}
 use Rattle.rules.specs.declared.Line.TheVariants.{LineA}
 use Rattle.rules.specs.declared.Refusal.{Refusal}
 use Rattle.rules.specs.Sheet.{points_of, fewest}
 use Rattle.rules.specs.declared.Reply.{Reply}
-use Rattle.rules.specs.Reply.{first_refusal}
+use Rattle.rules.specs.Reply.{checked_refusal, refuses, first_refusal}
 use Rattle.rules.specs.Rows.{point_checks}
 use Rattle.rules.specs.Build.{sheet_check, neighbour_check, build_refusal, table_of, built_table}
 use Rattle.table_truth.specs.Buildable.{row_numbers}
@@ -26,8 +27,7 @@ use Rattle.table_truth.proofs.Table.{table-length, built-rows, built-length, bui
 use Rattle.desk.specs.declared.Held.{Held}
 use Rattle.desk.specs.Desk.{Store, refused_at, on_build, with_table}
 use Rattle.desk.specs.Kept.{store_in, Stored, table_room}
-use Rattle.ready.specs.declared.Readied.TheVariants.{Ready}
-use Rattle.ready.specs.Readied.{Rows, ReadiesLine}
+use Rattle.ready.specs.Readied.{LentLine, Rows, ReadiesLine}
 use Rattle.ready.specs.Left.{clear, is_ready, table_after, StaysReady}
 
 -- ---------------- a refusal does not depend on a table that is long enough
@@ -122,7 +122,7 @@ stays-ready s t e =
     subst (StaysReady s) (table_is s t p) built)
 
 -- to keep the table of a line that stays ready says and leaves what to build it says and leaves
-pub kept_same : (l : Line) (s : Store) (place : ℕ) {t : List ℤ} → StaysReady s t → ReadiesLine l s place t Ready t
+pub kept_same : (l : Line) (s : Store) (place : ℕ) {t : List ℤ} → StaysReady s t → ReadiesLine l s place t (Ok tt) t
 kept_same l s place {t} h =
     by-ready s t h.ready
     (λ p q. record {
@@ -130,3 +130,56 @@ kept_same l s place {t} h =
       goes = sym h.ready;
       left = sym h.same;
     })
+
+-- ---------------- a line is readied, or not
+-- what a build says, told of a line
+abbrev pub told_of : Line → Result Unit Refusal → Result Unit Reply
+told_of l (Ok done) = Ok done
+told_of l (Err f) = Err (refuses (record { number = f.number; line = l; place = f.place; visits = f.visits }))
+
+pub as-told : (l : Line) (b : Result Unit Refusal) {r : Result Unit Reply} {Tells : Refusal → Reply → Type 0}
+    → MatchResult b (λ done. r ≡ Ok done) (λ f. IsErrAnd r (Tells f))
+    → ((f : Refusal) (told : Reply) → Tells f told
+    → told ≡ refuses (record { number = f.number; line = l; place = f.place; visits = f.visits }))
+    → r ≡ told_of l b
+as-told l (Ok done) h tells = h
+as-told l (Err f) {r = Ok done} h tells = absurd h
+as-told l (Err f) {r = Err told} h tells = ap Err (tells f told h)
+
+module _ (l : Line) {h : Held} {numbers t : List ℤ} (place : ℕ) (lent : LentLine h numbers t) where
+  abbrev s : Store
+  s = store_in h numbers
+
+  fit : row_numbers s.points ≤ length t
+  fit = rows_fit h numbers t lent.stored lent.room
+
+  -- 13, before the build
+  pub under-13 : {told : Reply} → h.over ≡ true → told ≡ refused_at 13 l place → ReadiesLine l s place t (Err told) t
+  under-13 over e = record {
+    reply = λ go. e ∙ with-table l s place go t fit over refl;
+    goes = ready-is s t over refl;
+    left = table_is s t over;
+  }
+
+  -- what the build says decides, and what it leaves in the table
+  pub built-readies : {lent after : List ℤ} (b : Result Unit Refusal) {r : Result Unit Reply} → h.over ≡ false
+      → lent ≡ s.points → checked_refusal b ≡ build_refusal lent t → after ≡ built_table lent t → r ≡ told_of l b
+      → ReadiesLine l s place t r after
+  built-readies {lent} {after} b {r} whole same says leaves told =
+      rw told (outcome b (says ∙ ap (λ (ps : List ℤ). build_refusal ps t) same))
+    where
+      left : after ≡ table_after s t
+      left = leaves ∙ ap (λ (ps : List ℤ). built_table ps t) same ∙ table_is s t whole
+
+      outcome : (b : Result Unit Refusal) → checked_refusal b ≡ build_refusal s.points t
+          → ReadiesLine l s place t (told_of l b) after
+      outcome (Ok done) e = record {
+        reply = λ go. with-table l s place go t fit whole (sym e);
+        goes = ready-is s t whole (sym e);
+        left = left;
+      }
+      outcome (Err f) e = record {
+        reply = λ go. with-table l s place go t fit whole (sym e);
+        goes = ready-is s t whole (sym e);
+        left = left;
+      }

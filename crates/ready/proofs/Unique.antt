@@ -5,23 +5,22 @@ use mathlib.Core.Bool.{true≢false}
 use mathlib.Core.List.{List}
 use Prim.Native.Nat.{ℕ}
 use lib.IntN.{ℤ}
+use Rattle.std.specs.Prelude.{Result, Ok, Err, is_ok}
 use Rattle.rules.specs.declared.Line.TheVariants.{NoLine}
 use Rattle.rules.specs.declared.Reply.{Reply}
 use Rattle.desk.specs.Desk.{Store, refused_at}
 use Rattle.ready.specs.declared.Needed.{Needed}
-use Rattle.ready.specs.declared.Readied.{Readied}
-use Rattle.ready.specs.declared.Readied.TheVariants.{Ready, Told}
 use Rattle.ready.specs.declared.TablesBuilt.{TablesBuilt}
 use Rattle.ready.specs.declared.Prepared.{Prepared}
-use Rattle.ready.specs.Readied.{readied_reply, goes_on, Readies}
+use Rattle.ready.specs.Readied.{readied_reply, Readies}
 
 -- two outcomes that go on alike, and that make the same of a reply, are the same
-readied-unique : (a b : Readied) (reply : Reply) → goes_on a ≡ goes_on b
+readied-unique : (a b : Result Unit Reply) (reply : Reply) → is_ok a ≡ is_ok b
     → readied_reply a reply ≡ readied_reply b reply → a ≡ b
-readied-unique Ready Ready reply g e = refl
-readied-unique Ready (Told t) reply g e = absurd (true≢false g)
-readied-unique (Told s) Ready reply g e = absurd (true≢false (sym g))
-readied-unique (Told s) (Told t) reply g e = ap Told e
+readied-unique (Ok one) (Ok other) reply g e = refl
+readied-unique (Ok ready) (Err t) reply g e = absurd (true≢false g)
+readied-unique (Err s) (Ok ready) reply g e = absurd (true≢false (sym g))
+readied-unique (Err s) (Err t) reply g e = ap Err e
 
 pub prepared-unique : {k : Needed} {a b : Store} {place : ℕ} {was : TablesBuilt} {table_a table_b : List ℤ}
     {r r' : Prepared} {left_a left_b left_a' left_b' : List ℤ} → Readies k a b place was table_a table_b r left_a left_b

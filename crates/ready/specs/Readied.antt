@@ -1,5 +1,5 @@
 -- What readying the tables of a question comes to, in the words of the definitions.
-use Rattle.std.specs.Prelude.{◌≡◌, Bool, true, false, List, ℕ, ◌≤◌, ℤ, length, take}
+use Rattle.std.specs.Prelude.{◌≡◌, Result, Ok, Err, is_ok, List, ℕ, ◌≤◌, ℤ, length, take}
 use Rattle.rules.specs.declared.Line.{Line}
 use Rattle.rules.specs.declared.Line.TheVariants.{LineA, LineB}
 use Rattle.rules.specs.Sheet.{points_of, fewest}
@@ -11,11 +11,14 @@ use Rattle.desk.specs.Desk.{Store, with_table}
 use Rattle.desk.specs.Kept.{store_in, Stored, table_room}
 use Rattle.ready.specs.declared.Needed.{Needed}
 use Rattle.ready.specs.declared.Needed.TheVariants.{NoTable, TableA, BothTables}
-use Rattle.ready.specs.declared.Readied.{Readied}
-use Rattle.ready.specs.declared.Readied.TheVariants.{Ready, Told}
+use Rattle.ready.specs.declared.StoredLine.{StoredLine}
 use Rattle.ready.specs.declared.TablesBuilt.{TablesBuilt}
 use Rattle.ready.specs.declared.Prepared.{Prepared}
 use Rattle.ready.specs.Left.{is_ready, table_after, stand_ready, first_after, second_after, built_after, AsBuilt}
+
+-- ---- a line as the code has it: the points at the front of its numbers
+abbrev pub store_of : StoredLine → Store
+store_of l = store_in l.held l.numbers.now
 
 -- ---- a line as it is lent: its store, a table of its size, and a table that is built is as its build left it
 pub record LentLine (h : Held) (numbers table : List ℤ) : Type 0 where
@@ -24,14 +27,9 @@ pub record LentLine (h : Held) (numbers table : List ℤ) : Type 0 where
   pub built : AsBuilt h.built (store_in h numbers) table
 
 -- ---- the reply of a question whose tables stand ready, or what is told in its place
-abbrev pub readied_reply : Readied → Reply → Reply
-readied_reply Ready reply = reply
-readied_reply (Told told) reply = told
-
--- whether the question goes on
-abbrev pub goes_on : Readied → Bool
-goes_on Ready = true
-goes_on (Told told) = false
+abbrev pub readied_reply : Result Unit Reply → Reply → Reply
+readied_reply (Ok ready) reply = reply
+readied_reply (Err told) reply = told
 
 -- ---- the rows of a line stand at the front of its table
 pub record Rows (ps t : List ℤ) : Type 0 where
@@ -52,9 +50,10 @@ with_tables TableA a b place go = with_table LineA a place (λ t. go t (table_of
 with_tables BothTables a b place go = with_table LineA a place (λ t. with_table LineB b place (λ t'. go t t'))
 
 -- ---- a line is readied: the reply of whatever is asked, whether it is, and what is left in its table
-pub record ReadiesLine (l : Line) (s : Store) (place : ℕ) (table : List ℤ) (r : Readied) (after : List ℤ) : Type 0 where
+pub record ReadiesLine (l : Line) (s : Store) (place : ℕ) (table : List ℤ) (r : Result Unit Reply)
+    (after : List ℤ) : Type 0 where
   pub reply : (go : List ℤ → Reply) → readied_reply r (go (table_of s.points)) ≡ with_table l s place go
-  pub goes : goes_on r ≡ is_ready s table
+  pub goes : is_ok r ≡ is_ready s table
   pub left : after ≡ table_after s table
 
 -- .. and the tables that are needed
@@ -62,7 +61,7 @@ pub record Readies (k : Needed) (a b : Store) (place : ℕ) (was : TablesBuilt) 
     (left_a left_b : List ℤ) : Type 0 where
   pub reply : (go : List ℤ → List ℤ → Reply)
       → readied_reply r.readied (go (table_of a.points) (table_of b.points)) ≡ with_tables k a b place go
-  pub goes : goes_on r.readied ≡ stand_ready k a b table_a table_b
+  pub goes : is_ok r.readied ≡ stand_ready k a b table_a table_b
   pub first : left_a ≡ first_after k a table_a
   pub second : left_b ≡ second_after k a b table_a table_b
   pub built : r.built ≡ built_after k was a b table_a table_b

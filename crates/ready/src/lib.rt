@@ -6,14 +6,14 @@
 
 ghost use Rattle.std.specs.Prelude.{◌≡◌};
 ghost use Rattle.rules.specs.Build.{table_of};
-ghost use Rattle.rules.specs.Reply.{refuses};
-ghost use Rattle.desk.specs.Kept.{store_in, Stored};
+ghost use Rattle.desk.specs.Desk.{refused_at};
+ghost use Rattle.desk.specs.Kept.{Stored};
 ghost use Rattle.ready.specs.Left.{built_of};
-ghost use Rattle.ready.specs.Readied.{goes_on, LentLine, Rows, ReadiesLine, Readies};
+ghost use Rattle.ready.specs.Readied.{store_of, LentLine, Rows, ReadiesLine, Readies};
 
 use desk::Held;
 use limits::WIDTH;
-use rules::{Checked, Line, Refusal, Reply, refuses};
+use rules::{Line, Refusal, Reply, refuses};
 
 // The tables that are needed.
 #[derive(Drop)]
@@ -23,13 +23,6 @@ pub enum Needed {
     BothTables,
 }
 
-// Whether the tables that a question needs stand ready, or what is told in place of its answer.
-#[derive(Clone, Copy)]
-pub enum Readied {
-    Ready,
-    Told(Reply),
-}
-
 // Which of the two tables are built from the stores as they are.
 #[derive(Drop)]
 pub struct TablesBuilt {
@@ -37,20 +30,29 @@ pub struct TablesBuilt {
     pub b: bool,
 }
 
-// What readying the tables of a question comes to, and which of them are built then.
+// Whether the tables that a question needs stand ready, or what is told in place of its answer; and which of them are
+// built then.
 #[derive(Drop)]
 pub struct Prepared {
-    pub readied: Readied,
+    pub readied: Result<(), Reply>,
     pub built: TablesBuilt,
 }
 
-// The points of a line, out of its store.
-pub fn stored(held: Held, points: &[i64]) -> &[i64]
-    requires { Stored held points.now }
-    ensures { result.now ≡ (store_in held points.now).points }
-{
-    let numbers = 2 * held.count;
-    &points[0..numbers]
+// A line as it is stored: how it is held, and the numbers of its store.
+#[derive(Clone, Copy)]
+pub struct StoredLine<'a> {
+    pub held: Held,
+    pub numbers: &'a [i64],
+}
+
+impl<'a> StoredLine<'a> {
+    // The points that are counted, and no number past them.
+    pub fn points(self) -> &'a [i64]
+        requires { Stored self.held self.numbers.now }
+        ensures { result.now ≡ (store_of self.entry).points }
+    {
+        &self.numbers[..2 * self.held.count]
+    }
 }
 
 // The rows of a line, out of its table, and nothing past them.
@@ -60,83 +62,68 @@ pub fn rows<'a>(line: &[i64], table: &'a [i64]) -> &'a [i64]
 {
     let segments = line.len() / 2 - 1;
     let numbers = WIDTH * (2 * segments - 1);
-    &table[0..numbers]
+    &table[..numbers]
 }
 
-// A refusal with its place, as it is told.
-pub fn refused(number: u32, line: Line, place: usize, visits: u32) -> Reply
-    ensures { result ≡ refuses (record { number = number; line = line; place = place; visits = visits }) }
+// A refusal of the program itself, as it is told.
+pub fn refused(number: u32, line: Line, place: usize) -> Reply
+    ensures { result ≡ refused_at number line place }
 {
     refuses(Refusal {
         number,
         line,
         place,
-        visits,
+        visits: 0,
     })
-}
-
-fn goes_on(readied: Readied) -> bool
-    ensures { result ≡ goes_on readied }
-{
-    if let Readied::Ready = readied {
-        true
-    } else {
-        false
-    }
 }
 
 // Builds the table of a line from its store, unless it is built, or tells why not: 13 in place of the build, or what
 // the build refused.
-fn ready(line: Line, held: Held, points: &[i64], table: &mut [i64], place: usize) -> Readied
-    requires { LentLine held points.now table.old }
-    ensures { ReadiesLine line (store_in held points.now) place
-        table.old result table.new }
+fn ready(line: Line, store: StoredLine<'_>, table: &mut [i64], place: usize) -> Result<(), Reply>
+    requires { LentLine store.held store.numbers.now table.old }
+    ensures { ReadiesLine line (store_of store.entry) place table.old result table.new }
 {
+    let held = store.held;
     if held.built {
-        return Readied::Ready;
+        return Ok(());
     }
     if held.over {
-        return Readied::Told(refused(13, line, place, 0));
+        return Err(refused(13, line, place));
     }
-    let built = build::build(stored(held, points), table);
-    if let Checked::Refused(refusal) = built {
-        return Readied::Told(refused(refusal.number, line, refusal.place, refusal.visits));
-    }
-    Readied::Ready
+    let built = build::build(store.points(), table);
+    built.map_err(|refusal| refuses(Refusal { line, ..refusal }))
 }
 
 // The tables of A and then of B; where A's is refused, B's is not built.
 fn ready_both(
-    held_a: Held,
-    points_a: &[i64],
+    store_a: StoredLine<'_>,
     table_a: &mut [i64],
-    held_b: Held,
-    points_b: &[i64],
+    store_b: StoredLine<'_>,
     table_b: &mut [i64],
     place: usize,
 ) -> Prepared
-    requires lent_line { LentLine held_a points_a.now table_a.old }
-    requires lent_line_2 { LentLine held_b points_b.now table_b.old }
-    ensures { Readies Needed.BothTables (store_in held_a points_a.now)
-        (store_in held_b points_b.now) place (built_of held_a held_b)
+    requires lent_line { LentLine store_a.held store_a.numbers.now table_a.old }
+    requires lent_line_2 { LentLine store_b.held store_b.numbers.now table_b.old }
+    ensures { Readies Needed.BothTables (store_of store_a.entry)
+        (store_of store_b.entry) place (built_of store_a.entry.held store_b.entry.held)
         table_a.old table_b.old result table_a.new table_b.new }
 {
-    let first = ready(Line::LineA, held_a, points_a, table_a, place);
-    let Readied::Ready = first else {
+    let first = ready(Line::LineA, store_a, table_a, place);
+    if first.is_err() {
         return Prepared {
             readied: first,
             built: TablesBuilt {
                 a: false,
-                b: held_b.built,
+                b: store_b.held.built,
             },
         };
-    };
-    let second = ready(Line::LineB, held_b, points_b, table_b, place);
+    }
+    let second = ready(Line::LineB, store_b, table_b, place);
     Prepared {
         readied: second,
         built: TablesBuilt {
             a: true,
-            b: goes_on(second),
+            b: second.is_ok(),
         },
     }
 }
@@ -144,40 +131,36 @@ fn ready_both(
 // The tables that are needed, and no others.
 pub fn ready_for(
     needed: Needed,
-    held_a: Held,
-    points_a: &[i64],
+    store_a: StoredLine<'_>,
     table_a: &mut [i64],
-    held_b: Held,
-    points_b: &[i64],
+    store_b: StoredLine<'_>,
     table_b: &mut [i64],
     place: usize,
 ) -> Prepared
-    requires lent_line { LentLine held_a points_a.now table_a.old }
-    requires lent_line_2 { LentLine held_b points_b.now table_b.old }
-    ensures { Readies needed (store_in held_a points_a.now)
-        (store_in held_b points_b.now) place (built_of held_a held_b)
+    requires lent_line { LentLine store_a.held store_a.numbers.now table_a.old }
+    requires lent_line_2 { LentLine store_b.held store_b.numbers.now table_b.old }
+    ensures { Readies needed (store_of store_a.entry)
+        (store_of store_b.entry) place (built_of store_a.entry.held store_b.entry.held)
         table_a.old table_b.old result table_a.new table_b.new }
 {
     match needed {
         Needed::NoTable => Prepared {
-            readied: Readied::Ready,
+            readied: Ok(()),
             built: TablesBuilt {
-                a: held_a.built,
-                b: held_b.built,
+                a: store_a.held.built,
+                b: store_b.held.built,
             },
         },
         Needed::TableA => {
-            let readied = ready(Line::LineA, held_a, points_a, table_a, place);
+            let readied = ready(Line::LineA, store_a, table_a, place);
             Prepared {
                 readied,
                 built: TablesBuilt {
-                    a: goes_on(readied),
-                    b: held_b.built,
+                    a: readied.is_ok(),
+                    b: store_b.held.built,
                 },
             }
         }
-        Needed::BothTables => ready_both(
-            held_a, points_a, table_a, held_b, points_b, table_b, place,
-        ),
+        Needed::BothTables => ready_both(store_a, table_a, store_b, table_b, place),
     }
 }

@@ -1,4 +1,3 @@
--- Turns of the desk, and which tables are built past them.
+-- What records and text lines come to, and which tables are built past them.
 pub mod Desks
-pub mod Points
 pub mod Stay

@@ -1,5 +1,6 @@
 -- A line whose table is built stays ready, whatever is read: what changes its points makes its table built no more, and
 -- what readies it leaves it ready. So the tables that are kept are those that building would leave.
+use mathlib.Core.Path.{subst⁻¹}
 use mathlib.Core.Bool.{Bool, true, false, cond, false≢true}
 use mathlib.Core.List.{List, [], ◌∷◌, ◌++◌}
 use Prim.Native.Nat.{ℕ}
@@ -18,8 +19,12 @@ use Rattle.ready.specs.declared.TablesBuilt.{TablesBuilt}
 use Rattle.ready.specs.Left.{is_ready, table_after, first_after, second_after, built_after, AsBuilt}
 use Rattle.ready.proofs.Tables.{stays-ready}
 use Rattle.answers.specs.Asked.{needed_by}
+use Rattle.store.specs.declared.State.{State}
+use Rattle.store.specs.declared.Outcome.{Outcome}
 use Rattle.records.specs.Left.{Both, both, Numbers, record_left, text_left}
-use Rattle.records.specs.Built.{points_change, asked_built, record_built, text_built, AllAsBuilt}
+use Rattle.records.specs.Built.{built_in, points_change, asked_built, record_built, text_built, AllAsBuilt}
+use Rattle.records.specs.Carried.{desk_of}
+use Rattle.records.specs.Takes.{TakesRecord}
 
 -- a table that is not built is not kept
 pub none-built : {s : Store} {t : List ℤ} → AsBuilt false s t
@@ -85,6 +90,15 @@ module _ (k : TablesBuilt) (d : Desk) (n : Numbers) (h : Stay k d n.tables) wher
   record-stay (Meet allowance) = asked-stay (Meet allowance)
   record-stay (Agree D allowance) = asked-stay (Agree D allowance)
   record-stay NotUnderstood = asked-stay NotUnderstood
+
+-- .. and so past what a record comes to
+pub record-stays : {s : State} (n : Numbers) {after : Numbers} (q : Record) {r : Outcome} → TakesRecord s q n r after
+    → Stay (built_in s) (desk_of s n.stores.a n.stores.b) n.tables
+    → Stay (built_in r.state) (desk_of r.state after.stores.a after.stores.b) after.tables
+record-stays {s} n q (takes, left, built) h =
+    subst⁻¹ (λ (x : TablesBuilt × Desk × Both). Stay x.0 x.1 x.2)
+    (λ i. (built i, (takes.taken i).desk, (left i).tables))
+    (record-stay (built_in s) (desk_of s n.stores.a n.stores.b) n h q)
 
 pub text-stay : (k : TablesBuilt) (d : Desk) (n : Numbers) (text : List ℕ) → Stay k d n.tables
     → Stay (text_built d n.tables k text) (take_text d text).desk (text_left d n text).tables

@@ -1,4 +1,4 @@
--- What the lent slices hold afterwards, number by number and byte by byte: the two stores, the two tables, and the
+-- What the desk holds afterwards, number by number and byte by byte: the two stores, the two tables, and the
 -- text line that has not ended.
 use Rattle.std.specs.Prelude.{cond, List, [], ◌∷◌, ℕ, eqb, ℤ, length}
 use Rattle.rules.specs.declared.Line.{Line}

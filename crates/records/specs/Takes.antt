@@ -1,23 +1,23 @@
 -- What a text line comes to in code, and what is promised of it.
-use Rattle.std.specs.Prelude.{◌≡◌, cond, List, ℕ, ◌<◌, ltb, ℤ}
+use Rattle.std.specs.Prelude.{◌≡◌, cond, Option, List, ℕ, ltb, ℤ}
 use Rattle.rules.specs.declared.Line.{Line}
 use Rattle.words.specs.declared.Record.{Record}
 use Rattle.desk.specs.Desk.{room, Taken, refused_at, take_point, take_record, take_text}
 use Rattle.store.specs.declared.State.{State}
+use Rattle.rules.specs.declared.Reply.{Reply}
 use Rattle.store.specs.declared.Outcome.{Outcome}
-use Rattle.store.specs.States.{heard, counted, quietly, sayingly}
+use Rattle.store.specs.States.{counted, quietly, sayingly}
 use Rattle.records.specs.Left.{Both, Numbers, stores_left, record_left, text_left}
 use Rattle.records.specs.Built.{built_in, points_change, record_built, text_built}
 use Rattle.records.specs.Carried.{desk_of, Bounds}
 
+-- ---- what a desk comes to, and what is said
+abbrev pub outcome_of : State → Option Reply → Outcome
+outcome_of s said = record { state = s; said = said }
+
 -- ---- the definitions' values of an outcome
 abbrev pub taken_in : Outcome → List ℤ → List ℤ → Taken
-taken_in t a b = record { desk = desk_of t.state a b; said = heard t.speech }
-
--- ---- a state whose text line is counted has an ordinal for a line that is printed
-pub record Ready (s : State) : Type 0 where
-  pub bounds : Bounds s
-  pub next : s.printed < s.read
+taken_in t a b = record { desk = desk_of t.state a b; said = t.said }
 
 -- ---- an outcome from a state: the desk and what is said are the definition's
 pub record Takes (t : Taken) (s : State) (r : Outcome) (a b : List ℤ) : Type 0 where

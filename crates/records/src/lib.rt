@@ -1,113 +1,108 @@
-// What a text line comes to, on slices: a point stored, a question answered over the two stores, a refusal.
-// `take_text` says it by the definitions of `desk`, and what every lent slice holds afterwards.
+// What a text line comes to: a point stored, a question answered over the two stores, a refusal. `take_text` says it by
+// the definitions of `desk`, and what the whole desk holds afterwards.
 #![tactic(auto)]
 
-ghost use Rattle.std.specs.Prelude.{◌≡◌, ◌+◌, ◌*◌, ◌<◌, ◌^◌, length};
-ghost use Rattle.desk.specs.Desk.{room};
-ghost use Rattle.records.specs.Left.{both, numbers};
-ghost use Rattle.records.specs.Built.{with_built, StateAsBuilt};
-ghost use Rattle.records.specs.Carried.{Lent, Bounds};
-ghost use Rattle.records.specs.Takes.{Ready, point_said, TakesPoint, TakesRecord, TakesText};
+mod kept;
+
+ghost use Rattle.std.specs.Prelude.{◌≡◌, ◌+◌, ◌<◌, ◌^◌};
+ghost use Rattle.store.specs.States.{sayingly};
+ghost use Rattle.records.specs.Left.{both};
+ghost use Rattle.records.specs.Takes.{outcome_of, point_said, TakesPoint, TakesRecord, TakesText};
+ghost use Rattle.records.specs.Holds.{numbers_of, SameRest};
 
 use answers::reply;
+pub use kept::Desk;
 use limits::ROOM;
-use ready::{TablesBuilt, refused};
-use rules::Line;
-use store::{Outcome, State, add_point, counted, quiet, saying, started};
+use ready::refused;
+use rules::{Line, Reply};
+use store::{State, add_point};
 use words::{Record, record_of};
 
+// What is said counts one printed line more.
+fn say(state: &mut State, reply: Reply) -> Option<Reply>
+    requires { state.old.printed < state.old.read }
+    ensures { outcome_of state.new result ≡ sayingly state.old reply }
+{
+    let outcome = state.saying(reply);
+    *state = outcome.state;
+    outcome.said
+}
+
 // A point is on its line: nothing is said where there was room behind this many, and else refusal 13.
-fn pointed(state: State, line: Line, count: usize) -> Outcome
-    requires { state.printed < state.read }
-    ensures { result ≡ point_said state line count }
+fn pointed(state: &mut State, line: Line, count: usize) -> Option<Reply>
+    requires { state.old.printed < state.old.read }
+    ensures { outcome_of state.new result ≡ point_said state.old line count }
 {
     if count < ROOM {
-        return quiet(state);
+        return None;
     }
-    saying(state, refused(13, line, state.read, 0))
+    let refusal = refused(13, line, state.read);
+    say(state, refusal)
 }
 
-// Points before any LINE are refusal 12, and each past the 257th is refusal 13.
-fn take_point(state: State, a: &mut [i64], b: &mut [i64], x: i64, y: i64) -> Outcome
-    requires { (length a.old ≡ 2 * room) × (length b.old ≡ 2 * room) × Ready state }
-    ensures { TakesPoint state x y (both a.old b.old) result
-        (both a.new b.new) }
-{
-    let target = state.target;
-    let mut s = state;
-    match target {
-        Line::NoLine => saying(s, refused(12, Line::NoLine, state.read, 0)),
-        Line::LineA => {
-            let held = state.a;
-            s.a = add_point(held, a, x, y);
-            pointed(s, Line::LineA, held.count)
-        }
-        Line::LineB => {
-            let held = state.b;
-            s.b = add_point(held, b, x, y);
-            pointed(s, Line::LineB, held.count)
-        }
-    }
-}
-
-// Other tables are built.
-fn with_built(state: State, built: TablesBuilt) -> State
-    ensures { result ≡ with_built state built }
-{
-    let mut a = state.a;
-    a.built = built.a;
-    let mut b = state.b;
-    b.built = built.b;
-    let mut s = state;
-    s.a = a;
-    s.b = b;
-    s
-}
-
-// What a record comes to.
-fn take_record(
-    state: State,
-    a: &mut [i64],
-    b: &mut [i64],
-    table_a: &mut [i64],
-    table_b: &mut [i64],
-    record: Record,
-) -> Outcome
-    requires { Lent a.old b.old table_a.old table_b.old × Ready state
-        × StateAsBuilt state a.old b.old table_a.old table_b.old }
-    ensures { TakesRecord state «record»
-        (numbers a.old b.old table_a.old table_b.old) result
-        (numbers a.new b.new table_a.new table_b.new) }
-{
-    match record {
-        Record::Start(line) => quiet(started(state, line)),
-        Record::Pt(x, y) => take_point(state, a, b, x, y),
-        _ => {
-            let held_a = state.a;
-            let held_b = state.b;
-            let place = state.read;
-            let replied = reply(record, place, held_a, a, table_a, held_b, b, table_b);
-            let built = replied.built;
-            saying(with_built(state, built), replied.reply)
+impl Desk {
+    // Points before any LINE are refusal 12, and each past the 257th is refusal 13. Each line's fields are named:
+    // whoever was lent either line's as `&mut` could leave a table told as built that is not.
+    fn take_point(&mut self, x: i64, y: i64) -> Option<Reply>
+        requires { self.old.state.printed < self.old.state.read }
+        ensures takes { TakesPoint self.old.state x y (both self.old.a self.old.b)
+            (outcome_of self.new.state result) (both self.new.a self.new.b) }
+        ensures rest { SameRest self.old self.new }
+    {
+        let state = self.state;
+        match state.target {
+            Line::NoLine => say(&mut self.state, refused(12, Line::NoLine, state.read)),
+            Line::LineA => {
+                self.state.a = add_point(state.a, &mut self.a, x, y);
+                pointed(&mut self.state, Line::LineA, state.a.count)
+            }
+            Line::LineB => {
+                self.state.b = add_point(state.b, &mut self.b, x, y);
+                pointed(&mut self.state, Line::LineB, state.b.count)
+            }
         }
     }
-}
 
-// A text line.
-pub fn take_text(
-    state: State,
-    a: &mut [i64],
-    b: &mut [i64],
-    table_a: &mut [i64],
-    table_b: &mut [i64],
-    text: &[u8],
-) -> Outcome
-    requires lent { Lent a.old b.old table_a.old table_b.old × Bounds state
-        × StateAsBuilt state a.old b.old table_a.old table_b.old }
-    requires read_bound { state.read + 1 < 2 ^ 64 }
-    ensures { TakesText state text.now
-        (numbers a.old b.old table_a.old table_b.old) result
-        (numbers a.new b.new table_a.new table_b.new) }
-{
-    take_record(counted(state), a, b, table_a, table_b, record_of(text))
+    // What a record comes to.
+    fn take_record(&mut self, record: Record) -> Option<Reply>
+        requires { self.old.state.printed < self.old.state.read }
+        ensures takes { TakesRecord self.old.state «record» (numbers_of self.old)
+            (outcome_of self.new.state result) (numbers_of self.new) }
+        ensures text_same { self.new.text ≡ self.old.text }
+    {
+        let state = self.state;
+        match record {
+            Record::Start(line) => {
+                self.state = state.started(line);
+                None
+            }
+            Record::Pt(x, y) => self.take_point(x, y),
+            _ => {
+                let replied = reply(
+                    record,
+                    state.read,
+                    state.a,
+                    &self.a,
+                    &mut self.table_a,
+                    state.b,
+                    &self.b,
+                    &mut self.table_b,
+                );
+                self.state.a.built = replied.built.a;
+                self.state.b.built = replied.built.b;
+                say(&mut self.state, replied.reply)
+            }
+        }
+    }
+
+    // A text line, and what is said to it, if anything.
+    pub fn take_text(&mut self, text: &[u8]) -> Option<Reply>
+        requires { self.old.state.read + 1 < 2 ^ 64 }
+        ensures takes { TakesText self.old.state text.now (numbers_of self.old)
+            (outcome_of self.new.state result) (numbers_of self.new) }
+        ensures text_same { self.new.text ≡ self.old.text }
+    {
+        self.state = self.state.counted();
+        self.take_record(record_of(text))
+    }
 }

@@ -1,6 +1,7 @@
 -- What one visit sees, at a node that is reached: a bad row is refused with 10, and else the rows are good and both
 -- halves are reached too. So a walk visits reached nodes alone, and is refused with 10 alone, exactly where a row that
 -- is visited is bad.
+use Rattle.std.specs.Prelude.{Option, Some, None}
 use mathlib.Core.Path.{◌≡◌, refl, sym, ap, subst, ◌∙◌}
 use mathlib.Core.Bool.{Bool, not, cond}
 use mathlib.Core.List.{List, [], ◌∷◌, ◌++◌, append_assoc}
@@ -10,8 +11,6 @@ use lib.Dec.{T, ltb}
 use lib.ListN.{length, length-append}
 use Rattle.integers.specs.Laws.{cond_ind}
 use Rattle.rules.specs.declared.Line.{Line}
-use Rattle.rules.specs.declared.Next.{Next}
-use Rattle.rules.specs.declared.Next.TheVariants.{Left, Spent}
 use Rattle.rules.specs.declared.Refusal.{Refusal}
 use Rattle.rules.specs.declared.Tally.{Tally}
 use Rattle.rules.specs.declared.Reply.{Reply}
@@ -69,9 +68,9 @@ module _ {S N : Type 0} (vs : Visits S N) where
   both-come ns spent go h k = h
   both-come ns (refused r) go h k = h
 
-  left-come : (m : Next) (go : Tally → List N) → ((y : Tally) → Each Come (go y)) → Each Come (nodes_left m go)
-  left-come (Left y) go h = h y
-  left-come Spent go h = tt
+  left-come : (m : Option Tally) (go : Tally → List N) → ((y : Tally) → Each Come (go y)) → Each Come (nodes_left m go)
+  left-come (Some y) go h = h y
+  left-come None go h = tt
 
   pub each-come : (f : ℕ) (n : N) (s : S) (y : Tally) → Come n → Each Come (visits_of visit f n s y)
   unfolding visits_of
@@ -137,7 +136,7 @@ module _ {S N : Type 0} (vs : Visits S N) where
   unfolding walk visits_of
   walk-traced zero n s y come = tt
   walk-traced (suc f) n s y come =
-      cond_ind (ltb y.visits y.allowance) (Left v) Spent
+      cond_ind (ltb y.visits y.allowance) (Some v) None
       (λ m.
       Traced (nodes_left m (λ x. n ∷ nodes_halved (visit n) (nodes x))) y (on_visit m (λ x. on_step (visit n) s x (go x))))
       (λ _.

@@ -1,8 +1,7 @@
 -- The nodes that a walk visits, in the order of the visits: the way of the walk, with the nodes kept.
+use Rattle.std.specs.Prelude.{Option, Some, None}
 use Rattle.std.specs.Prelude.{false, List, [], ◌∷◌, ◌++◌, ℕ, zero, suc, ◌+◌, ℤ}
 use Rattle.rules.specs.declared.Line.{Line}
-use Rattle.rules.specs.declared.Next.{Next}
-use Rattle.rules.specs.declared.Next.TheVariants.{Left, Spent}
 use Rattle.rules.specs.declared.Node.{Node}
 use Rattle.rules.specs.declared.Pair.{Pair}
 use Rattle.rules.specs.declared.Point.{Point}
@@ -12,9 +11,9 @@ use Rattle.rules.specs.Walk.{next, Visit, refuse, finish, pass, halve, Walked, e
 use Rattle.rules.specs.Questions.{root, near_visit, meet_visit, in_visit}
 
 -- none where a visit is due and none is left
-abbrev pub nodes_left : {N : Type 0} → Next → (Tally → List N) → List N
-nodes_left (Left y) go = go y
-nodes_left Spent go = []
+abbrev pub nodes_left : {N : Type 0} → Option Tally → (Tally → List N) → List N
+nodes_left (Some y) go = go y
+nodes_left None go = []
 
 -- those of the halves, where the visit halves
 abbrev pub nodes_halved : {S N : Type 0} → Visit S N → (N → N → List N) → List N

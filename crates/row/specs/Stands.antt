@@ -1,5 +1,5 @@
 -- What a visit may count on: a node that lies inside its line and its table.
-use Rattle.std.specs.Prelude.{List, ℕ, ◌+◌, ◌*◌, ◌≤◌, ◌<◌, T, ℤ}
+use Rattle.std.specs.Prelude.{List, ℕ, ◌≤◌, T, ℤ}
 use Rattle.rules.specs.declared.Node.{Node}
 use Rattle.rules.specs.Sheet.{point, segments_of, on_sheet}
 use Rattle.rules.specs.Tree.{row_count}

@@ -11,7 +11,7 @@ ghost use Rattle.rules.specs.Questions.{split_in};
 ghost use Rattle.row.specs.Parts.{frame_good, leaf_fits, split_fits};
 
 use limits::{LIMIT, WIDTH, column};
-use line::{on_sheet, on_sheet_at, point_at, same_point};
+use line::{on_sheet, on_sheet_at, point_at};
 use rules::{Point, Row};
 
 // Number k of row r.
@@ -23,6 +23,7 @@ fn number_at(table: &[i64], r: usize, k: usize) -> i64
 }
 
 // Row r of a table.
+#[tactic(auto, unfolding(rules::specs::Tree::row_at))]
 pub fn row_at(table: &[i64], r: usize) -> Row
     requires { width * r + width ≤ length table.now }
     ensures { result ≡ row_at table.now r }
@@ -57,19 +58,13 @@ pub fn splits_inside(r: Row, first: usize, last: usize) -> bool
     (first as i64) < r.split && r.split < last as i64
 }
 
-// Whether the range lo to hi holds 0.
-fn holds_zero(lo: i64, hi: i64) -> bool
-    ensures { result ≡ le_z lo (pos 0) && le_z (pos 0) hi }
-{
-    (lo <= 0) & (0 <= hi)
-}
-
 fn strip_good(r: Row) -> bool
     ensures { result ≡ strip_good r }
 {
-    holds_zero(r.cmin, r.cmax) & holds_zero(r.tmin, r.tmax)
+    (r.cmin <= 0) & (0 <= r.cmax) & (r.tmin <= 0) & (0 <= r.tmax)
 }
 
+#[tactic(auto, using(crate::proofs::Parts::three_suffice))]
 fn side_good(lo: i64, hi: i64) -> bool
     ensures { result ≡ side_good lo hi }
 {
@@ -97,7 +92,7 @@ pub fn frame_good(r: Row, first: usize, last: usize) -> bool
 pub fn leaf_good(r: Row, a: Point, b: Point) -> bool
     ensures { result ≡ leaf_fits r a b }
 {
-    r.split == -1 && !same_point(a, b)
+    r.split == -1 && a != b
 }
 
 // Whether a row is good whose node is known to begin and end on the sheet.
@@ -125,6 +120,7 @@ pub fn good_from(points: &[i64], r: Row, first: usize, last: usize) -> bool
 }
 
 // Whether a row that is read at a visit is good, for the range handed down.
+#[tactic(auto, using(crate::proofs::Parts::start_off))]
 pub fn row_good(points: &[i64], r: Row, first: usize, last: usize) -> bool
     requires { (first < last) × (last < most) × (2 * last + 1 < length points.now) }
     ensures { result ≡ good points.now r first last }

@@ -1,12 +1,10 @@
 -- docs/RULES.md, section 6: the word, visits, refusal number or 0, line A, B or none, and place or 0 of an answer.
 -- The order in which refusals are checked is the order of a list.
-use Rattle.std.specs.Prelude.{Bool, cond, List, [], ◌∷◌, ℕ}
+use Rattle.std.specs.Prelude.{Bool, cond, List, [], ◌∷◌, ℕ, Result, Ok, Err}
 use Rattle.std.proofs.Math.Option.{Option, none, some}
 use Rattle.rules.specs.declared.Line.{Line}
 use Rattle.rules.specs.declared.Line.TheVariants.{NoLine}
 use Rattle.rules.specs.declared.Refusal.{Refusal}
-use Rattle.rules.specs.declared.Checked.{Checked}
-use Rattle.rules.specs.declared.Checked.TheVariants as checked
 use Rattle.rules.specs.declared.Word.{Word}
 use Rattle.rules.specs.declared.Word.TheVariants.{NO, REFUSED}
 use Rattle.rules.specs.declared.Reply.{Reply}
@@ -22,9 +20,9 @@ abbrev pub refuses : Refusal → Reply
 refuses r = record { word = REFUSED; visits = r.visits; number = r.number; line = r.line; place = r.place }
 
 -- ---- what checks come to: the refusal, if there is one
-abbrev pub checked_refusal : Checked → Option Refusal
-checked_refusal checked.Fine = none
-checked_refusal (checked.Refused r) = some r
+abbrev pub checked_refusal : Result Unit Refusal → Option Refusal
+checked_refusal (Ok done) = none
+checked_refusal (Err r) = some r
 
 -- ---- numbered refusals, in the order checked: the first reason that holds decides, before any visit
 pub record Check : Type 0 where

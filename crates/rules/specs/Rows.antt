@@ -1,5 +1,5 @@
 -- docs/RULES.md, section 5: when a row that is read at a visit is good, and the checks before a walk.
-use Rattle.std.specs.Prelude.{Bool, not, cond, ◌&&◌, ◌||◌, List, [], ◌∷◌, ◌++◌, ℕ, ◌+◌, ◌*◌, ◌%◌, ltb, eqb, ℤ, pos, length}
+use Rattle.std.specs.Prelude.{Bool, not, cond, ◌&&◌, ◌||◌, List, [], ◌∷◌, ◌++◌, ℕ, ◌*◌, ◌%◌, ltb, eqb, ℤ, pos, length}
 use Rattle.std.specs.Int.Signed.{le_z, lt_z}
 use Rattle.rules.specs.declared.Line.{Line}
 use Rattle.rules.specs.declared.Line.TheVariants.{NoLine}

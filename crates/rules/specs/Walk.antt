@@ -1,17 +1,15 @@
 -- docs/RULES.md, section 4.2: the tally, and the walk over whatever one visit does. Each question says what its
 -- visit does (Questions); the answer, the visits, and later a report or the pending rows, are readings of this one
 -- walk.
-use Rattle.std.specs.Prelude.{cond, ℕ, zero, suc, ◌+◌, ltb}
+use Rattle.std.specs.Prelude.{cond, Option, Some, None, ℕ, zero, suc, ◌+◌, ltb}
 use Rattle.rules.specs.declared.Line.{Line}
 use Rattle.rules.specs.declared.Refusal.{Refusal}
 use Rattle.rules.specs.declared.Tally.{Tally}
-use Rattle.rules.specs.declared.Next.{Next}
-use Rattle.rules.specs.declared.Next.TheVariants.{Left, Spent}
 
 -- the tally after one more visit, or none is left
-abbrev pub next : Tally → Next
+abbrev pub next : Tally → Option Tally
 next y =
-    cond (ltb y.visits y.allowance) (Left (record { allowance = y.allowance; visits = y.visits + 1 })) Spent
+    cond (ltb y.visits y.allowance) (Some (record { allowance = y.allowance; visits = y.visits + 1 })) None
 
 abbrev pub fresh : ℕ → Tally
 fresh allowance = record { allowance = allowance; visits = 0 }
@@ -32,9 +30,9 @@ pub data Walked (S : Type 0) : Type 0 where
 
 module _ {S : Type 0} where
   -- when a visit is due and none is left, the walk is spent
-  abbrev pub on_visit : Next → (Tally → Walked S) → Walked S
-  on_visit (Left y) go = go y
-  on_visit Spent go = spent
+  abbrev pub on_visit : Option Tally → (Tally → Walked S) → Walked S
+  on_visit (Some y) go = go y
+  on_visit None go = spent
 
   -- what is over goes on; a yes, want of visits and a refusal end the walk
   abbrev pub go_on : Walked S → (S → Tally → Walked S) → Walked S

@@ -4,10 +4,10 @@
 
 ghost use Rattle.std.specs.Prelude.{◌≡◌};
 ghost use Rattle.rules.specs.Reply.{says, disagrees, refuses};
-ghost use Rattle.rules.specs.Walk.{next};
+ghost use Rattle.rules.specs.Walk.{fresh, next};
 
 // A point in sheet units.
-#[derive(Clone, Copy)]
+#[derive(Clone, Copy, PartialEq, Eq)]
 pub struct Point {
     pub x: i64,
     pub y: i64,
@@ -44,7 +44,8 @@ pub struct Pair {
     pub b: Node,
 }
 
-// The line that is at fault, or none.
+// The line that is at fault, or none. Three variants are plainer than an `Option` of two: each is printed and coded by
+// one `match`, and `State` aims at one of them.
 #[derive(Clone, Copy)]
 pub enum Line {
     NoLine,
@@ -52,20 +53,15 @@ pub enum Line {
     LineB,
 }
 
-// A numbered refusal: its number, the line at fault, the place, and the visits made.
+// A numbered refusal: its number, the line at fault, the place, and the visits made. Checks come to the first refusal
+// or to nothing, `Result<(), Refusal>`: so answer the calls that write, and the checker. The rules know a refusal by
+// its number, and theorems compare numbers (`near-to-10`, `number-last` in refusals): so it is no enum.
 #[derive(Clone, Copy)]
 pub struct Refusal {
     pub number: u32,
     pub line: Line,
     pub place: usize,
     pub visits: u32,
-}
-
-// What checks come to: the first refusal, or that there is none. So answer the calls that write, and the checker.
-#[derive(Clone, Copy)]
-pub enum Checked {
-    Fine,
-    Refused(Refusal),
 }
 
 // The words of an answer, as they are printed.
@@ -81,7 +77,8 @@ pub enum Word {
 }
 
 // What a question is answered with: the word, the visits made, the refusal number or 0, the line at fault, or none,
-// and the place or 0.
+// and the place or 0. They stand side by side, as they are printed, since definitions and theorems speak of each
+// (`printed`, `FirstBad`, `SaysOnly`).
 #[derive(Clone, Copy)]
 pub struct Reply {
     pub word: Word,
@@ -137,26 +134,28 @@ pub struct Tally {
     pub visits: u32,
 }
 
-// The next tally, or that none is left.
-#[derive(Clone, Copy)]
-pub enum Next {
-    Left(Tally),
-    Spent,
-}
-
 impl Tally {
-    pub fn visit(self) -> Next
+    // No visit is made yet.
+    pub fn fresh(allowance: u32) -> Tally
+        ensures { result ≡ fresh allowance }
+    {
+        Tally {
+            allowance,
+            visits: 0,
+        }
+    }
+
+    // The next tally, or none where no visit is left.
+    pub fn visit(self) -> Option<Tally>
         ensures { result ≡ next self }
     {
-        let allowance = self.allowance;
-        let visits = self.visits;
-        if visits < allowance {
-            Next::Left(Tally {
-                allowance,
-                visits: visits + 1,
+        if self.visits < self.allowance {
+            Some(Tally {
+                visits: self.visits + 1,
+                ..self
             })
         } else {
-            Next::Spent
+            None
         }
     }
 }

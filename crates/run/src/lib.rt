@@ -9,7 +9,7 @@ ghost use Rattle.limits.specs.Small.{OnSheet, Small};
 ghost use Rattle.run.specs.Run.{AllOnSheet, span_of, span_with, top_with, ends_of, measured_with, measure_of};
 
 use integers::magnitude;
-use line::{c_at, direction, greater, lesser, point_at, size2, step, t_at};
+use line::{c_at, direction, point_at, size2, step, t_at};
 use rules::Point;
 
 // The least and the greatest of some numbers.
@@ -41,8 +41,8 @@ impl Span {
         ensures { result ≡ span_of a b }
     {
         Span {
-            lo: lesser(a, b),
-            hi: greater(a, b),
+            lo: a.min(b),
+            hi: a.max(b),
         }
     }
 
@@ -50,8 +50,8 @@ impl Span {
         ensures { result ≡ span_with self v }
     {
         Span {
-            lo: lesser(self.lo, v),
-            hi: greater(self.hi, v),
+            lo: self.lo.min(v),
+            hi: self.hi.max(v),
         }
     }
 }
@@ -126,9 +126,7 @@ pub fn measure(run: &[i64]) -> Measured
     let e = point_at(run, last);
     let u = direction(s, e);
     let mut m = Measured::ends(s, e);
-    let mut i: usize = 0;
-    while i + 1 < last {
-        i += 1;
+    for i in 1..last {
         m = m.with(s, u, last, i, point_at(run, i));
     }
     m

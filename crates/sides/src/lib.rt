@@ -17,10 +17,7 @@ use rules::{Point, Row};
 fn range_holds(a: i64, b: i64, v: i64) -> bool
     ensures { result ≡ range_holds a b v }
 {
-    if a < b {
-        return holds(a, b, v);
-    }
-    holds(b, a, v)
+    holds(a.min(b), a.max(b), v)
 }
 
 // Whether z is on the segment a to b.
@@ -28,13 +25,7 @@ pub fn on_segment(z: Point, a: Point, b: Point) -> bool
     requires { OnSheet z × OnSheet a × OnSheet b }
     ensures { result ≡ on_segment z a b }
 {
-    if !range_holds(a.x, b.x, z.x) {
-        return false;
-    }
-    if !range_holds(a.y, b.y, z.y) {
-        return false;
-    }
-    c_at(a, step(a, b), z) == 0
+    range_holds(a.x, b.x, z.x) && range_holds(a.y, b.y, z.y) && c_at(a, step(a, b), z) == 0
 }
 
 // Whether l is not above z and h is above it.
@@ -57,10 +48,7 @@ fn rises(z: Point, l: Point, h: Point) -> bool
     requires { OnSheet z × OnSheet l × OnSheet h }
     ensures { result ≡ low_high z l h && lt_z (pos 0) (side_of z l h) }
 {
-    if !low_high(z, l, h) {
-        return false;
-    }
-    0 < side_of(z, l, h)
+    low_high(z, l, h) && 0 < side_of(z, l, h)
 }
 
 // Whether the segment a to b crosses the ray to the right of z. Only its lower end can be low: it is chosen first, so
@@ -87,16 +75,10 @@ pub fn clear_along(r: Row, s: Point, u: Point, z: Point) -> bool
     requires { OnSheet s × Small u × OnSheet z }
     ensures { result ≡ clear_of r s u z }
 {
-    if outside(r.xmin, r.xmax, z.x) {
-        return true;
-    }
-    if outside(r.ymin, r.ymax, z.y) {
-        return true;
-    }
-    if outside(r.cmin, r.cmax, c_at(s, u, z)) {
-        return true;
-    }
-    outside(r.tmin, r.tmax, t_at(s, u, z))
+    outside(r.xmin, r.xmax, z.x)
+        || outside(r.ymin, r.ymax, z.y)
+        || outside(r.cmin, r.cmax, c_at(s, u, z))
+        || outside(r.tmin, r.tmax, t_at(s, u, z))
 }
 
 // The same of a node from a to b.

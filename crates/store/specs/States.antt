@@ -1,6 +1,5 @@
 -- A point in a store, a byte kept of a text line, and the states on the way from a text line to its outcome.
-use Rattle.std.specs.Prelude.{◌≡◌, true, false, cond, List, [], ◌∷◌, ◌++◌, ℕ, ◌+◌, ◌*◌, ◌≤◌, leb, ltb, ℤ, set, take}
-use Rattle.std.proofs.Math.Option.{Option, none, some}
+use Rattle.std.specs.Prelude.{◌≡◌, true, false, cond, Some, None, List, [], ◌∷◌, ◌++◌, ℕ, ◌+◌, ◌*◌, ◌≤◌, leb, ltb, ℤ, set, take}
 use Rattle.rules.specs.declared.Line.{Line}
 use Rattle.rules.specs.declared.Line.TheVariants.{NoLine, LineA, LineB}
 use Rattle.rules.specs.Sheet.{points_of}
@@ -9,10 +8,8 @@ use Rattle.words.specs.Records.{longest}
 use Rattle.desk.specs.declared.Held.{Held}
 use Rattle.desk.specs.Desk.{Store, room}
 use Rattle.desk.specs.Chunks.{keep}
-use Rattle.desk.specs.Kept.{store_in, kept_bytes}
+use Rattle.desk.specs.Kept.{no_points, store_in, kept_bytes}
 use Rattle.store.specs.declared.State.{State}
-use Rattle.store.specs.declared.Speech.{Speech}
-use Rattle.store.specs.declared.Speech.TheVariants.{Quiet, Says}
 use Rattle.store.specs.declared.Outcome.{Outcome}
 
 -- ---- a point is written behind the points of a store, and past the 257th nothing is
@@ -61,28 +58,16 @@ abbrev pub aimed : State → Line → State
 aimed s l =
     record { target = l; a = s.a; b = s.b; read = s.read; printed = s.printed; pending = s.pending }
 
-abbrev pub no_points : Held
-no_points = record { count = 0; over = false; built = false }
-
 abbrev pub started : State → Line → State
 started s NoLine = aimed s NoLine
 started s LineA = aimed (with_a s no_points) LineA
 started s LineB = aimed (with_b s no_points) LineB
 
 abbrev pub quietly : State → Outcome
-quietly s = record { state = s; speech = Quiet }
+quietly s = record { state = s; said = None }
 
 abbrev pub sayingly : State → Reply → Outcome
-sayingly s reply =
-    record {
-      state = with_printed s (s.printed + 1);
-      speech = Says reply;
-    }
-
--- ---- the definitions' values of what an outcome says
-abbrev pub heard : Speech → Option Reply
-heard Quiet = none
-heard (Says reply) = some reply
+sayingly s reply = record { state = with_printed s (s.printed + 1); said = Some reply }
 
 -- ---- a byte kept of the text line that has not ended: of the state the pending bytes alone change
 pub record Keeps (s : State) (text : List ℕ) (b : ℕ) (r : State) (after : List ℕ) : Type 0 where

@@ -1,5 +1,6 @@
-// What is kept between text lines and within one: the state beside the lent slices, a point behind the stored points of
-// a line, a byte behind the pending bytes of a text line; and the states on the way from a text line to what it prints.
+// What is kept between text lines and within one: the state beside the stores and tables, a point behind the stored
+// points of a line, a byte behind the pending bytes of a text line; and the states on the way from a text line to what
+// it prints.
 #![tactic(auto)]
 
 ghost use Rattle.std.specs.Prelude.{◌≡◌, ◌+◌, ◌≤◌, ◌<◌, ◌^◌, length};
@@ -8,15 +9,15 @@ ghost use Rattle.print.specs.Put.{Put};
 ghost use Rattle.desk.specs.Desk.{said_bytes};
 ghost use Rattle.desk.specs.Kept.{kept_bytes, Stored};
 ghost use Rattle.store.specs.States.{Adds, Keeps};
-ghost use Rattle.store.specs.States.{counted, aimed, started, quietly, sayingly, heard};
+ghost use Rattle.store.specs.States.{counted, started, sayingly};
 
 use desk::Held;
 use limits::{KEPT_BYTES, ROOM};
 use print::put_line;
 use rules::{Line, Reply};
 
-// What is carried beside the lent slices: where points go, how the two lines are held, the text lines read, the lines
-// printed, and the bytes kept of the text line that has not ended.
+// What is carried beside the stores and tables: where points go, how the two lines are held, the text lines read, the
+// lines printed, and the bytes kept of the text line that has not ended.
 #[derive(Clone, Copy)]
 pub struct State {
     pub target: Line,
@@ -27,133 +28,112 @@ pub struct State {
     pub pending: usize,
 }
 
-// What a text line makes the program say.
-#[derive(Drop)]
-pub enum Speech {
-    Quiet,
-    Says(Reply),
-}
-
-// What a text line comes to.
+// What a text line comes to, and what the program says to it, if anything.
 #[derive(Drop)]
 pub struct Outcome {
     pub state: State,
-    pub speech: Speech,
+    pub said: Option<Reply>,
 }
 
 // Each point past the 257th is not stored. The table of the line is not built from its points any more.
+#[tactic(auto, using(std::proofs::lemmas::List::take_more_set), unfolding(crate::specs::States::point_left))]
 pub fn add_point(held: Held, points: &mut [i64], x: i64, y: i64) -> Held
     requires { Stored held points.old }
     ensures { Adds held points.old x y result points.new }
 {
     let count = held.count;
-    let mut next = held;
-    next.built = false;
+    let unbuilt = Held {
+        built: false,
+        ..held
+    };
     if count < ROOM {
         points[2 * count] = x;
         points[2 * count + 1] = y;
-        next.count = count + 1;
-        return next;
+        return Held {
+            count: count + 1,
+            ..unbuilt
+        };
     }
-    next.over = true;
-    next
-}
-
-// A byte behind the pending bytes: of a text line, one byte more than it may have is kept.
-pub fn keep_byte(state: State, text: &mut [u8], byte: u8) -> State
-    requires { (length text.old ≡ kept_bytes) × (state.pending ≤ kept_bytes) }
-    ensures { Keeps state text.old byte result text.new }
-{
-    let pending = state.pending;
-    if pending < KEPT_BYTES {
-        text[pending] = byte;
-        let mut s = state;
-        s.pending = pending + 1;
-        return s;
-    }
-    state
-}
-
-// The pending bytes are a text line that is read.
-pub fn counted(state: State) -> State
-    requires { state.read + 1 < 2 ^ 64 }
-    ensures { result ≡ counted state }
-{
-    let mut s = state;
-    s.read = state.read + 1;
-    s.pending = 0;
-    s
-}
-
-// The following points go to a line.
-fn aimed(state: State, line: Line) -> State
-    ensures { result ≡ aimed state line }
-{
-    let a = state.a;
-    let b = state.b;
-    State {
-        target: line,
-        a,
-        b,
-        read: state.read,
-        printed: state.printed,
-        pending: state.pending,
+    Held {
+        over: true,
+        ..unbuilt
     }
 }
 
-// LINE empties its line and directs the following points to it.
-pub fn started(state: State, line: Line) -> State
-    ensures { result ≡ started state line }
-{
-    let none = Held {
-        count: 0,
-        over: false,
-        built: false,
-    };
-    let mut s = state;
-    match line {
-        Line::NoLine => aimed(state, Line::NoLine),
-        Line::LineA => {
-            s.a = none;
-            aimed(s, Line::LineA)
+impl State {
+    // A byte behind the pending bytes: of a text line, one byte more than it may have is kept.
+    #[tactic(auto, unfolding(crate::specs::States::kept_left))]
+    pub fn keep_byte(self, text: &mut [u8], byte: u8) -> State
+        requires { (length text.old ≡ kept_bytes) × (self.pending ≤ kept_bytes) }
+        ensures { Keeps self text.old byte result text.new }
+    {
+        let pending = self.pending;
+        if pending < KEPT_BYTES {
+            text[pending] = byte;
+            return State {
+                pending: pending + 1,
+                ..self
+            };
         }
-        Line::LineB => {
-            s.b = none;
-            aimed(s, Line::LineB)
+        self
+    }
+
+    // The pending bytes are a text line that is read.
+    pub fn counted(self) -> State
+        requires { self.read + 1 < 2 ^ 64 }
+        ensures { result ≡ counted self }
+    {
+        State {
+            read: self.read + 1,
+            pending: 0,
+            ..self
         }
     }
-}
 
-pub fn quiet(state: State) -> Outcome
-    ensures { result ≡ quietly state }
-{
-    Outcome {
-        state,
-        speech: Speech::Quiet,
+    // LINE empties its line and directs the following points to it.
+    pub fn started(self, line: Line) -> State
+        ensures { result ≡ started self line }
+    {
+        let aimed = State {
+            target: line,
+            ..self
+        };
+        match line {
+            Line::NoLine => aimed,
+            Line::LineA => State {
+                a: Held::empty(),
+                ..aimed
+            },
+            Line::LineB => State {
+                b: Held::empty(),
+                ..aimed
+            },
+        }
+    }
+
+    pub fn saying(self, reply: Reply) -> Outcome
+        requires { self.printed < self.read }
+        ensures { result ≡ sayingly self reply }
+    {
+        Outcome {
+            state: State {
+                printed: self.printed + 1,
+                ..self
+            },
+            said: Some(reply),
+        }
     }
 }
 
-pub fn saying(state: State, reply: Reply) -> Outcome
-    requires { state.printed < state.read }
-    ensures { result ≡ sayingly state reply }
-{
-    let mut s = state;
-    s.printed = state.printed + 1;
-    Outcome {
-        state: s,
-        speech: Speech::Says(reply),
-    }
-}
-
-// The line that an outcome prints, if any.
-pub fn print_outcome(outcome: Outcome, out: &mut [u8], at: usize) -> usize
-    requires { at + widest ≤ length out.old }
-    ensures { Put out.old at (said_bytes (heard outcome.speech) outcome.state.printed)
-        out.new result }
-{
-    let speech = outcome.speech;
-    match speech {
-        Speech::Quiet => at,
-        Speech::Says(said) => put_line(out, at, outcome.state.printed, said),
+impl Outcome {
+    // The line that is printed, if any.
+    pub fn print(self, out: &mut [u8], at: usize) -> usize
+        requires { at + widest ≤ length out.old }
+        ensures { Put out.old at (said_bytes self.said self.state.printed) out.new result }
+    {
+        match self.said {
+            None => at,
+            Some(reply) => put_line(out, at, self.state.printed, reply),
+        }
     }
 }

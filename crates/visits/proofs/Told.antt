@@ -1,20 +1,19 @@
 -- Demand 2 for any walk: where each visit is right about its own node, the walk is right about its first node, under
 -- every allowance.
+use Rattle.std.specs.Prelude.{Option, Some, None}
 use mathlib.Core.Path.{◌≡◌, ◌∙◌, ap}
 use mathlib.Core.Bool.{Bool, true, false, cond, ◌||◌}
 use Prim.Native.Nat.{ℕ, zero, suc}
 use Rattle.rules.specs.declared.Tally.{Tally}
-use Rattle.rules.specs.declared.Next.{Next}
-use Rattle.rules.specs.declared.Next.TheVariants.{Left, Spent}
 use Rattle.rules.specs.Walk.{next, Visit, refuse, finish, pass, halve, Walked, ended, over, spent, refused, on_visit}
 use Rattle.rules.specs.Walk.{go_on, on_step, walk}
 pub use Rattle.visits.specs.Tells.{Right, Tells}
 
 module _ {S N : Type 0} (visit : N → Visit S N) (Good : ℕ → N → Type 0) (hit : N → Bool) (add : N → S → S) where
-  tells-visit : (n : N) (s : S) (m : Next) (go : Tally → Walked S) → ((y : Tally) → Tells hit add n s (go y))
+  tells-visit : (n : N) (s : S) (m : Option Tally) (go : Tally → Walked S) → ((y : Tally) → Tells hit add n s (go y))
       → Tells hit add n s (on_visit m go)
-  tells-visit n s (Left y) go h = h y
-  tells-visit n s Spent go h = tt
+  tells-visit n s (Some y) go h = h y
+  tells-visit n s None go h = tt
 
   -- the left half is over, and the walk of the right half tells of both
   tells-right : (n l r : N) (s s' : S) → hit n ≡ hit l || hit r → ((s : S) → add r (add l s) ≡ add n s) → hit l ≡ false

@@ -6,20 +6,19 @@ ghost use Rattle.rules.specs.Old.{widen_refusal, widened};
 ghost use Rattle.rules.specs.Reply.{checked_refusal};
 
 use line::early;
-use rules::{Checked, Line};
+use rules::{Line, Refusal};
 
 // Puts each number of old at the front of new. Where new is the shorter, that is refusal 6, and nothing is written.
-pub fn widen(old: &[i32], new: &mut [i64]) -> Checked
+#[tactic(auto, unfolding(rules::specs::Old::widen_refusal, rules::specs::Old::widened))]
+pub fn widen(old: &[i32], new: &mut [i64]) -> Result<(), Refusal>
     ensures result_value { checked_refusal result ≡ widen_refusal old.now new.old }
     ensures after { new.new ≡ widened old.now new.old }
 {
     if new.len() < old.len() {
-        return Checked::Refused(early(6, Line::NoLine));
+        return Err(early(6, Line::NoLine));
     }
-    let mut i: usize = 0;
-    while i < old.len() {
-        new[i] = old[i] as i64;
-        i += 1;
+    for i in 0..old.len() {
+        new[i] = i64::from(old[i]);
     }
-    Checked::Fine
+    Ok(())
 }

@@ -1,6 +1,3 @@
--- Laws of fields, numbers and records, for the proofs of the functions that read them.
-pub mod Fields
-pub mod Readings
-pub mod Choice
+-- Laws of words and records, for the proofs of the functions that read them.
+pub mod Words
 pub mod Figures
-pub mod Forms

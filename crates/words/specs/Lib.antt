@@ -1,5 +1,3 @@
 -- docs/RULES.md, section 7.2: how a text line is read.
 pub mod Fields
-pub mod Numbers
 pub mod Records
-pub mod Forms

@@ -1,6 +1,5 @@
 -- The records of the question program. Any other record, and a text line above 80 bytes, is not understood.
-use Rattle.std.specs.Prelude.{Bool, cond, ◌&&◌, List, [], ◌∷◌, ℕ, eqb, leb, ℤ, nat_abs, length}
-use Rattle.std.proofs.Math.Option.{Option, none, some}
+use Rattle.std.specs.Prelude.{Bool, cond, ◌&&◌, List, [], ◌∷◌, ℕ, eqb, leb, ℤ, nat_abs, length, Option, Some, None}
 use Rattle.rules.specs.declared.Line.TheVariants.{LineA, LineB}
 use Rattle.numerals.specs.Numerals.{numeral, only_if, fits_i32, fits_u32}
 use Rattle.words.specs.declared.Record.{Record}
@@ -52,8 +51,8 @@ allowance fs k = only_if fits_u32 (numeral (field fs k))
 
 -- a record is understood if each of its numbers is
 abbrev pub given : Option ℤ → (ℤ → Record) → Record
-given none go = NotUnderstood
-given (some z) go = go z
+given None go = NotUnderstood
+given (Some z) go = go z
 
 -- PT x y; NEAR x y D allowance; IN x y allowance; MEET allowance; AGREE D allowance
 abbrev pub numbered : ℕ → List ℕ → List (List ℕ) → Record

@@ -1,52 +1,26 @@
--- `agree` asks the checks in the order of the list; where none refuses, the walks answer.
-use mathlib.Core.Path.{◌≡◌, refl, sym, ◌∙◌, ap}
-use mathlib.Core.Bool.{Bool, true}
+-- `agree` tells the first refusal; where no check refuses, the walks answer.
+use mathlib.Core.Path.{◌≡◌, sym, ◌∙◌, ap}
 use mathlib.Core.List.{List}
-use mathlib.Core.Option.{Option, none}
 use Prim.Native.Nat.{ℕ}
 use native.Mathlib.Omega.{arith}
 use lib.IntN.{ℤ}
 use mir.Syntax.{w64}
 use mir.Facts.{to_z-of_z}
 use Rattle.rules.specs.declared.Line.TheVariants.{LineA, LineB}
-use Rattle.rules.specs.declared.Refusal.{Refusal}
 use Rattle.rules.specs.declared.Tally.{Tally}
-use Rattle.rules.specs.Sheet.{points_of, distance_fits}
-use Rattle.rules.specs.declared.Reply.{Reply}
-use Rattle.rules.specs.Reply.{checked_refusal, first_refusal, or_refused, refuses, or_else}
-use Rattle.rules.specs.Rows.{length_checks}
+use Rattle.rules.specs.Sheet.{points_of}
 use Rattle.rules.specs.Walk.{fresh}
-use Rattle.rules.specs.Questions.{Asked, ask_all, on_all_near, agreed, agree_walk, agree_reply}
-use Rattle.rules.specs.declared.Checked.TheVariants.{Fine}
-use Rattle.line.proofs.Lengths.{lengths-fine}
+use Rattle.rules.specs.Questions.{Asked, ask_all, on_all_near, agreed, agree_walk}
+use Rattle.line.proofs.Stored.{stored-abs}
+use Rattle.reach.proofs.Sizes.{distance-abs}
 use Rattle.ending.specs.Ending.{end_in, tally_in}
 use Rattle.agree_walk.specs.Asking.{asked}
 use Rattle.agree_walk.proofs.Points.{is-near, stops}
-use Rattle.agree.proofs.Replies.{walks_reply, distance_refusal, agree-checked}
+use Rattle.agree.proofs.Replies.{agree-checked, agree-fine}
 use Rattle.agree.proofs.agree.Goals as goal
-use Rattle.agree.proofs.agree.Goals.{Start, In_default, In_default-checked_b, After-distance_fits}
+use Rattle.agree.proofs.agree.Goals.{Start}
 
--- ---------------- what each check said
-abbrev refusal_a : List ℤ → List ℤ → Option Refusal
-refusal_a ps t = first_refusal (length_checks LineA ps t)
-
-abbrev refusal_b : List ℤ → List ℤ → Option Refusal
-refusal_b ps t = first_refusal (length_checks LineB ps t)
-
-fine-a : (c : In_default) → refusal_a c.args.points_a.now c.args.table_a.now ≡ none
-fine-a c =
-    let e : c.check_lengths-checked_a.result ≡ Fine = cc in
-    sym c.check_lengths-checked_a.ensures ∙ ap checked_refusal e
-
-fine-b : (c : In_default-checked_b) → refusal_b c.args.points_b.now c.args.table_b.now ≡ none
-fine-b c =
-    let e : c.check_lengths-checked_b.result ≡ Fine = cc in
-    sym c.check_lengths-checked_b.ensures ∙ ap checked_refusal e
-
-distance-said : (c : After-distance_fits) → distance_fits c.args.distance ≡ c.distance_fits.result
-distance-said c = ap distance_fits (sym (to_z-of_z {w = w64} c.ranges.distance)) ∙ sym c.distance_fits.ensures
-
--- ---------------- they decide the reply
+-- ---------------- the walks: A's points against B, and B's against A
 module _ (s : Start) where
   abbrev points_a : List ℤ
   points_a = s.args.points_a.now
@@ -60,17 +34,6 @@ module _ (s : Start) where
   abbrev table_b : List ℤ
   table_b = s.args.table_b.now
 
-  abbrev reply : Reply
-  reply = agree_reply points_a table_a points_b table_b s.args.distance s.args.allowance
-
-  decided : {o p : Option Refusal} {d : Bool}
-      → refusal_a points_a table_a ≡ o → refusal_b points_b table_b ≡ p → distance_fits s.args.distance ≡ d
-      → or_refused (or_else o (or_else p (distance_refusal s.args.distance d)))
-      (walks_reply points_a table_a points_b table_b s.args.distance s.args.allowance)
-      ≡ reply
-  decided = agree-checked points_a table_a points_b table_b s.args.distance s.args.allowance
-
-  -- ---------------- the walks: A's points against B, and B's against A
   abbrev first : Asked
   first =
       ask_all LineA points_a LineB points_b table_b s.args.distance 0 (points_of points_a) (fresh s.args.allowance)
@@ -98,93 +61,49 @@ module _ (s : Start) where
       ∙ ap second goes_on
       ∙ (rw (is-near LineA LineB at s.args.allowance ending near) at (after_first told))
 
-  -- what the walks come to is the reply, where every check passed
-  answered : refusal_a points_a table_a ≡ none → refusal_b points_b table_b ≡ none
-      → distance_fits s.args.distance ≡ true
-      → {x : Asked} {r : Reply} → r ≡ agreed s.args.allowance x → x ≡ whole → r ≡ reply
-  answered a b d said e = (rw e at said) ∙ decided a b d
+-- the distance is stored in 64 bits, and read back as it is
+pub returns-in-Err : goal.returns-in-Err
+returns-in-Err c =
+    let d = to_z-of_z {w = w64} c.ranges.distance in
+    c.refuses.ensures ∙ agree-checked _ _ _ _ _ _ (rw d at c.in-Err.ensures)
 
-pub returns-in-Refused : goal.returns-in-Refused
-returns-in-Refused c =
-    c.refuses.ensures
-    ∙ decided (goal.at.returns-in-Refused c).Start
-    (sym c.check_lengths-checked_a.ensures ∙ ap checked_refusal c.in-Refused.is)
-    refl
-    refl
+-- the lengths of both lines are fine, and the distance fits
+pub ask_line-a-requires : goal.ask_line-a-requires
+ask_line-a-requires c =
+    let a = c.args in
+    let passed = rw (to_z-of_z {w = w64} c.ranges.distance) at c.in_default.ensures in
+    let fine = agree-fine a.points_a.now a.table_a.now a.points_b.now a.table_b.now a.distance passed in
+    (omega (arith, fine.0.some-points), fine.1, stored-abs (distance-abs a.distance fine.2) tt)
 
-pub returns-in-Refused-checked_b : goal.returns-in-Refused-checked_b
-returns-in-Refused-checked_b c =
-    let k = goal.at.returns-in-Refused-checked_b c in
-    c.refuses-in-Refused-checked_b.ensures
-    ∙ decided k.Start (fine-a k.In_default)
-    (sym c.check_lengths-checked_b.ensures ∙ ap checked_refusal c.in-Refused-checked_b.is)
-    refl
-
-pub returns-then-not-distance_fits : goal.returns-then-not-distance_fits
-returns-then-not-distance_fits c =
-    let k = goal.at.returns-then-not-distance_fits c in
-    c.refuses-then-not-distance_fits.ensures
-    ∙ ap refuses c.early.ensures
-    ∙ decided k.Start (fine-a k.In_default) (fine-b k.In_default-checked_b)
-    (distance-said k.After-distance_fits ∙ c.if-not-distance_fits.true)
-
--- B begins or ends off the sheet
-pub returns-then-not-ends_on_sheet : goal.returns-then-not-ends_on_sheet
-returns-then-not-ends_on_sheet c =
-    let k = goal.at.returns-then-not-ends_on_sheet c in
-    let s = k.Start in
-    let r = c.bad_start-met.result in
-    let off = sym c.ends_on_sheet.ensures ∙ c.if-not-ends_on_sheet.true in
-    let b = fine-b k.In_default-checked_b in
-    let met = c.bad_start-met.ensures in
-    answered s (fine-a k.In_default) b (distance-said k.After-distance_fits ∙ c.if-not-distance_fits.false)
-    c.agreement.ensures
-    (stops LineA LineB r.at s.args.allowance r.ending _ (λ q. omega (arith, met.bound, q))
-    ∙ after_first s
-    (met.asks_all_off (points_b s) (table_b s) s.args.distance (lengths-fine LineB _ _ b) off LineA LineB))
+pub ask_line-b-requires : goal.ask_line-b-requires
+ask_line-b-requires c =
+    let a = c.args in
+    let passed = rw (to_z-of_z {w = w64} c.ranges.distance) at c.in_default.ensures in
+    let fine = agree-fine a.points_a.now a.table_a.now a.points_b.now a.table_b.now a.distance passed in
+    (omega (arith, fine.1.some-points), fine.0, stored-abs (distance-abs a.distance fine.2) tt)
 
 -- A's points are asked, and one is not near
 pub returns-then-end_in-ne-ENDED : goal.returns-then-end_in-ne-ENDED
 returns-then-end_in-ne-ENDED c =
-    let k = goal.at.returns-then-end_in-ne-ENDED c in
-    let s = k.Start in
-    let r = c.ask_all-a.result in
+    let s = (goal.at.returns-then-end_in-ne-ENDED c).Start in
     let d = to_z-of_z {w = w64} c.ranges.distance in
-    answered s (fine-a k.In_default) (fine-b k.In_default-checked_b)
-    (distance-said k.After-distance_fits ∙ c.if-not-distance_fits.false)
-    c.agreement-then-end_in-ne-ENDED.ensures
+    let r = c.ask_line-a.result in
+    c.agreement.ensures
+    ∙ ap (agreed s.args.allowance)
     (stops LineA LineB r.at s.args.allowance r.ending _ (λ q. c.if-end_in-ne-ENDED.true (c.end_in.ensures ∙ q))
-    ∙ after_first s (rw d at (c.ask_all-a.ensures LineA LineB)))
-
--- A's points are near B, and A begins or ends off the sheet
-pub returns-then-not-ends_on_sheet-2 : goal.returns-then-not-ends_on_sheet-2
-returns-then-not-ends_on_sheet-2 c =
-    let k = goal.at.returns-then-not-ends_on_sheet-2 c in
-    let s = k.Start in
-    let r = c.ask_all-a.result in
-    let d = to_z-of_z {w = w64} c.ranges.distance in
-    let near : end_in r.ending ≡ 2 = omega (arith, c.end_in.ensures, c.if-end_in-ne-ENDED.false) in
-    let off = sym c.ends_on_sheet-2.ensures ∙ c.if-not-ends_on_sheet-2.true in
-    let a = fine-a k.In_default in
-    let met = c.bad_start-met-then-not-ends_on_sheet-2 in
-    answered s a (fine-b k.In_default-checked_b)
-    (distance-said k.After-distance_fits ∙ c.if-not-distance_fits.false)
-    c.agreement-then-not-ends_on_sheet-2.ensures
-    (after_both s r.at r.ending (rw d at (c.ask_all-a.ensures LineA LineB)) near _ c.tally_in-rest.ensures
-    met.result.at met.result.ending
-    (met.ensures.asks_all_off (points_a s) (table_a s) s.args.distance (lengths-fine LineA _ _ a) off LineB LineA))
+    ∙ after_first s (rw (d, c.fresh.ensures) at (c.ask_line-a.ensures LineA LineB)))
+    ∙ agree-checked _ _ _ _ _ _ (rw d at c.in_default.ensures)
 
 -- and B's points are asked
 pub returns : goal.returns
 returns c =
-    let k = goal.at.returns c in
-    let s = k.Start in
-    let r = c.ask_all-a.result in
-    let b = c.ask_all-b.result in
+    let s = (goal.at.returns c).Start in
     let d = to_z-of_z {w = w64} c.ranges.distance in
+    let r = c.ask_line-a.result in
+    let b = c.ask_line-b.result in
     let near : end_in r.ending ≡ 2 = omega (arith, c.end_in.ensures, c.if-end_in-ne-ENDED.false) in
-    answered s (fine-a k.In_default) (fine-b k.In_default-checked_b)
-    (distance-said k.After-distance_fits ∙ c.if-not-distance_fits.false)
     c.agreement-2.ensures
-    (after_both s r.at r.ending (rw d at (c.ask_all-a.ensures LineA LineB)) near _ c.tally_in-rest.ensures
-    b.at b.ending (rw d at (c.ask_all-b.ensures LineB LineA)))
+    ∙ ap (agreed s.args.allowance)
+    (after_both s r.at r.ending (rw (d, c.fresh.ensures) at (c.ask_line-a.ensures LineA LineB)) near _
+    c.tally_in-rest.ensures b.at b.ending (rw d at (c.ask_line-b.ensures LineB LineA)))
+    ∙ agree-checked _ _ _ _ _ _ (rw d at c.in_default.ensures)

@@ -1,12 +1,12 @@
 -- `end_text`: the pending bytes are a text line, and its outcome is printed.
 use Rattle.std.proofs.Common.{refl}
-use Rattle.records.specs.Left.{numbers, slices}
+use Rattle.records.specs.Holds.{slices_of}
 use Rattle.byte.proofs.Byte.{byte-ends}
 use Rattle.byte.proofs.end_text.Goals as goal
 
 pub returns : goal.returns
 returns c =
-    let s = c.args in
-    let left = c.take_text-outcome.new in
-    byte-ends (slices s.a.now s.b.now s.table_a.now s.table_b.now s.text.now) c.requires.lent.1 s.out.now s.fed.wrote
-    (numbers left.a left.b left.table_a left.table_b) refl c.take_text-outcome.ensures c.print_outcome.ensures
+    let desk = c.args.desk.now in
+    let took = c.take_text-said in
+    byte-ends (slices_of desk) desk.bounds c.args.out.now c.args.wrote (slices_of took.new.self) refl took.ensures.takes
+    took.ensures.text_same c.print.ensures

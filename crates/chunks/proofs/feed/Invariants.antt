@@ -1,14 +1,10 @@
 -- `feed`: before each round the first bytes are fed, byte behind byte.
-use Rattle.std.proofs.Common.{◌-◌, length}
-use Rattle.records.specs.Left.{slices}
+use Rattle.records.specs.Holds.{slices_of}
+use Rattle.byte.specs.Feeds.{fed}
 use Rattle.chunks.proofs.Chunk.{FedFirst}
 use Rattle.chunks.proofs.feed.Given as goal
 
-abbrev pub invariant-loop-i : goal.invariant-loop-i
-invariant-loop-i l =
+abbrev pub invariant-loop-byte : goal.invariant-loop-byte
+invariant-loop-byte l =
     let s = l.initial in
-    FedFirst s.fed.state (slices s.a s.b s.table_a s.table_b s.text) l.chunk s.out l.i l.fed
-    (slices l.a l.b l.table_a l.table_b l.text) l.out
-
-abbrev pub decreases-loop-i : goal.decreases-loop-i
-decreases-loop-i l = length l.chunk - l.i
+    FedFirst s.desk.state (slices_of s.desk) l.chunk s.out l.byte-index (fed l.desk.state l.wrote) (slices_of l.desk) l.out

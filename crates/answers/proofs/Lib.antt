@@ -1,2 +1,0 @@
--- What is no question.
-pub mod Others

@@ -1,5 +1,0 @@
--- `put_decimal`: the number falls to its tenth.
-use Rattle.print.proofs.+put_decimal.Given as goal
-
-abbrev pub decreases-put_decimal : goal.decreases-put_decimal
-decreases-put_decimal l = l.n
