@@ -1,14 +1,12 @@
 -- IN: a pass that changes an even count to an odd one crossed.
 use mathlib.Core.Path.{◌≡◌, refl}
 use mathlib.Core.Bool.{Bool, true, false}
-use Rattle.rules.specs.declared.Line.TheVariants.{LineA}
 use Rattle.rules.specs.declared.Node.{Node}
 use Rattle.rules.specs.Walk.{Visit, refuse, finish, pass, halve}
-use Rattle.rules.specs.Questions.{count}
 use Rattle.rules.proofs.Unique.{said-once}
 use Rattle.walk.specs.declared.Step.{Step}
 use Rattle.walk.specs.declared.Step.TheVariants.{Bad, Finish, Pass, Halve}
-use Rattle.walk.specs.Steps.{step_visit}
+use Rattle.visit_truth.specs.Does.{in_does}
 
 step_back : Visit Bool Node → Step
 step_back (refuse number line place) = Bad
@@ -16,7 +14,7 @@ step_back finish = Finish
 step_back (pass f) = Pass (f false)
 step_back (halve l r) = Halve l.last
 
-step_back_lem : (n : Node) (s : Step) → step_back (step_visit count LineA n s) ≡ s
+step_back_lem : (n : Node) (s : Step) → step_back (in_does n s) ≡ s
 unfolding step_back
 step_back_lem n Bad = refl
 step_back_lem n Finish = refl
@@ -24,5 +22,5 @@ step_back_lem n (Pass true) = refl
 step_back_lem n (Pass false) = refl
 step_back_lem n (Halve s) = refl
 
-pub step-unique : (n : Node) (s t : Step) → step_visit count LineA n s ≡ step_visit count LineA n t → s ≡ t
-step-unique n = said-once (step_visit count LineA n) step_back (step_back_lem n)
+pub step-unique : (n : Node) (s t : Step) → in_does n s ≡ in_does n t → s ≡ t
+step-unique n = said-once (in_does n) step_back (step_back_lem n)

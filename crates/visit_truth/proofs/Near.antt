@@ -7,17 +7,7 @@ use Rattle.rules.specs.Walk.{Visit, refuse, finish, pass, halve}
 use Rattle.rules.specs.Questions.{Nothing}
 use Rattle.walk.specs.declared.Step.{Step}
 use Rattle.walk.specs.declared.Step.TheVariants.{Bad, Finish, Pass, Halve}
-use Rattle.walk.specs.Steps.{step_visit}
-
-abbrev pub Uncrossed : Step → Type 0
-Uncrossed Bad = Unit {0}
-Uncrossed Finish = Unit {0}
-Uncrossed (Pass true) = ⊥
-Uncrossed (Pass false) = Unit {0}
-Uncrossed (Halve s) = Unit {0}
-
-abbrev pub does : Line → Node → Step → Visit Nothing Node
-does l n s = step_visit (λ crossed k. k) l n s
+use Rattle.visit_truth.specs.Does.{near_does, Uncrossed}
 
 step_back : Visit Nothing Node → Step
 step_back (refuse number line place) = Bad
@@ -25,7 +15,7 @@ step_back finish = Finish
 step_back (pass f) = Pass false
 step_back (halve l r) = Halve l.last
 
-step_back_lem : (l : Line) (n : Node) (s : Step) → Uncrossed s → step_back (does l n s) ≡ s
+step_back_lem : (l : Line) (n : Node) (s : Step) → Uncrossed s → step_back (near_does l n s) ≡ s
 unfolding step_back
 step_back_lem l n Bad u = refl
 step_back_lem l n Finish u = refl
@@ -33,5 +23,6 @@ step_back_lem l n (Pass true) u = absurd u
 step_back_lem l n (Pass false) u = refl
 step_back_lem l n (Halve s) u = refl
 
-pub step-unique : (l : Line) (n : Node) (v w : Step) → Uncrossed v → Uncrossed w → does l n v ≡ does l n w → v ≡ w
+pub step-unique : (l : Line) (n : Node) (v w : Step) → Uncrossed v → Uncrossed w
+    → near_does l n v ≡ near_does l n w → v ≡ w
 step-unique l n v w p q e = sym (step_back_lem l n v p) ∙ ap step_back e ∙ step_back_lem l n w q

@@ -1,0 +1,2 @@
+-- What a step of NEAR or of IN does.
+pub mod Does
