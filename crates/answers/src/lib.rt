@@ -70,7 +70,7 @@ fn ask(
             distance,
             allowance,
         ),
-        _ => refused(12, Line::NoLine, place),
+        _ => refused(12, Line::NoLine, place, 0),
     }
 }
 

@@ -1,5 +1,5 @@
 -- Bytes written into a slice: none, and what stands behind bytes that were written already.
-use mathlib.Core.Path.{◌≡◌, ◌∙◌, ap, subst, subst⁻¹}
+use mathlib.Core.Path.{◌≡◌, sym, ◌∙◌, ap, subst, subst⁻¹}
 use mathlib.Core.List.{List, [], ◌++◌, append_assoc}
 use Prim.Native.Nat.{ℕ, ◌+◌, ◌≤◌}
 use native.Mathlib.Omega.{arith}
@@ -11,6 +11,11 @@ use Rattle.print.specs.Put.{Put}
 -- The same bytes, said another way.
 pub put_same : {d xs ys e : List ℕ} {at i : ℕ} → xs ≡ ys → Put d at xs e i → Put d at ys e i
 put_same {d} {xs} {ys} {e} {at} {i} same = subst (λ (bytes : List ℕ). Put d at bytes e i) same
+
+-- The bytes of one case of a value, where the value is of that case.
+pub put-case : {A : Type 0} (bytes : A → List ℕ) {x y : A} {d e : List ℕ} {at i : ℕ} → x ≡ y → Put d at (bytes y) e i →
+    Put d at (bytes x) e i
+put-case bytes same p = put_same (ap bytes (sym same)) p
 
 -- Nothing written leaves all as it was.
 pub put-none : (d : List ℕ) (at : ℕ) → Put d at [] d at

@@ -6,7 +6,7 @@
 
 ghost use Rattle.std.specs.Prelude.{◌≡◌};
 ghost use Rattle.rules.specs.Build.{table_of};
-ghost use Rattle.desk.specs.Desk.{refused_at};
+ghost use Rattle.rules.specs.Reply.{refuses};
 ghost use Rattle.desk.specs.Kept.{Stored};
 ghost use Rattle.ready.specs.Left.{built_of};
 ghost use Rattle.ready.specs.Readied.{store_of, LentLine, Rows, ReadiesLine, Readies};
@@ -65,15 +65,15 @@ pub fn rows<'a>(line: &[i64], table: &'a [i64]) -> &'a [i64]
     &table[..numbers]
 }
 
-// A refusal of the program itself, as it is told.
-pub fn refused(number: u32, line: Line, place: usize) -> Reply
-    ensures { result ≡ refused_at number line place }
+// A refusal with its place, as it is told.
+pub fn refused(number: u32, line: Line, place: usize, visits: u32) -> Reply
+    ensures { result ≡ refuses (record { number = number; line = line; place = place; visits = visits }) }
 {
     refuses(Refusal {
         number,
         line,
         place,
-        visits: 0,
+        visits,
     })
 }
 
@@ -88,7 +88,7 @@ fn ready(line: Line, store: StoredLine<'_>, table: &mut [i64], place: usize) -> 
         return Ok(());
     }
     if held.over {
-        return Err(refused(13, line, place));
+        return Err(refused(13, line, place, 0));
     }
     let built = build::build(store.points(), table);
     built.map_err(|refusal| refuses(Refusal { line, ..refusal }))

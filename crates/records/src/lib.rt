@@ -36,7 +36,7 @@ fn pointed(state: &mut State, line: Line, count: usize) -> Option<Reply>
     if count < ROOM {
         return None;
     }
-    let refusal = refused(13, line, state.read);
+    let refusal = refused(13, line, state.read, 0);
     say(state, refusal)
 }
 
@@ -51,7 +51,7 @@ impl Desk {
     {
         let state = self.state;
         match state.target {
-            Line::NoLine => say(&mut self.state, refused(12, Line::NoLine, state.read)),
+            Line::NoLine => say(&mut self.state, refused(12, Line::NoLine, state.read, 0)),
             Line::LineA => {
                 self.state.a = add_point(state.a, &mut self.a, x, y);
                 pointed(&mut self.state, Line::LineA, state.a.count)

@@ -1,0 +1,2 @@
+-- What is no question.
+pub mod Others
