@@ -11,15 +11,15 @@ use rules::{Line, Reply, Word};
 
 // A slice, and the place from which on it is written.
 #[derive(Drop)]
-struct Printer<'a> {
-    out: &'a mut [u8],
-    at: usize,
+pub struct Printer<'a> {
+    pub out: &'a mut [u8],
+    pub at: usize,
 }
 
 impl Printer<'_> {
     // ---------------- bytes, from the place on
 
-    fn byte(&mut self, byte: u8)
+    pub fn byte(&mut self, byte: u8)
         requires { self.old.at < length self.old.out.now }
         ensures same_slice { self.new.out.ghost_name ≡ self.old.out.ghost_name }
         ensures put { Put self.old.out.now self.old.at (byte ∷ []) self.new.out.now self.new.at }
@@ -28,7 +28,7 @@ impl Printer<'_> {
         self.at += 1;
     }
 
-    fn bytes(&mut self, bytes: &[u8])
+    pub fn bytes(&mut self, bytes: &[u8])
         requires { self.old.at + length bytes.now ≤ length self.old.out.now }
         ensures same_slice { self.new.out.ghost_name ≡ self.old.out.ghost_name }
         ensures put { Put self.old.out.now self.old.at bytes.now self.new.out.now self.new.at }
@@ -40,7 +40,7 @@ impl Printer<'_> {
     }
 
     // A number in decimal digits: those of its tenth, then its last.
-    fn decimal(&mut self, n: u64)
+    pub fn decimal(&mut self, n: u64)
         requires { self.old.at + 20 ≤ length self.old.out.now }
         ensures same_slice { self.new.out.ghost_name ≡ self.old.out.ghost_name }
         ensures put { Put self.old.out.now self.old.at (decimal n) self.new.out.now self.new.at }

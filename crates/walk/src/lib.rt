@@ -96,7 +96,7 @@ fn inner_step<Q: Question>(
 
 // A visit of a node whose ends are known to be on the sheet: it reads one row and checks it, and dismisses the node,
 // tests its one segment or halves it.
-fn visit<Q: Question>(question: &Q, points: &[i64], table: &[i64], node: Node) -> Step
+pub fn visit<Q: Question>(question: &Q, points: &[i64], table: &[i64], node: Node) -> Step
     requires { Stands points.now table.now node × EndsOn points.now node }
     ensures { Visits (Q.tests question.now) points.now table.now node result }
 {
