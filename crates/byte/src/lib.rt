@@ -28,8 +28,8 @@ pub fn end_text(desk: &mut Desk, out: &mut [u8], wrote: usize) -> usize
     outcome.print(out, wrote)
 }
 
-// A line feed ends the text line, any other byte is kept. Of the state only how many bytes are pending changes: with all
-// of it written back, text took two to four times as long to read.
+// A line feed ends the text line, any other byte is kept. Of the state only how many bytes are pending changes: with
+// all of it written back, text took two to four times as long to read.
 pub fn feed_byte(desk: &mut Desk, byte: u8, out: &mut [u8], wrote: usize) -> usize
     requires room { wrote + widest ≤ length out.old }
     requires read_bound { desk.old.state.read + 1 < 2 ^ 64 }
