@@ -1,12 +1,14 @@
 -- Words, byte for byte, and their records. The laws have for premises what is known where `search` cites them.
-use Rattle.std.proofs.Common.{◌≡◌, ◌≢◌, Bool, true, false, cond, ◌&&◌, ◌∙◌, List, [], ◌∷◌, ℕ, suc, length, get_or, eqb, arith, refl, ap, ℤ, nat_abs, Some, w64, to_z, of_z, SFits}
+use Rattle.std.proofs.Common.{◌≡◌, ◌≢◌, Bool, true, false, cond, ◌&&◌, ◌∙◌, List, [], ◌∷◌, ℕ, suc, length, get_or, eqb}
+use Rattle.std.proofs.Common.{arith, refl, ap, ℤ, nat_abs, Some, w64, to_z, of_z, SFits}
 use Rattle.std.proofs.lemmas.Bool.Decides.{nat_tests}
 use Rattle.std.proofs.lemmas.Int.{to_z-of_z}
 use Rattle.std.proofs.lemmas.Slice.Eq.{HasBytesAt, text_from_reads, bytes_eq-Decides}
 use Rattle.words.specs.declared.Record.{Record}
 use Rattle.words.specs.declared.Record.TheVariants.{Pt, Near, In, NotUnderstood}
 use Rattle.words.specs.Fields.{same_bytes, field}
-use Rattle.words.specs.Records.{LINE, PT, NEAR, IN, MEET, AGREE, is, line_named, coordinate, allowance, numbered, record_in}
+use Rattle.words.specs.Records.{LINE, PT, NEAR, IN, MEET, AGREE, is, line_named, coordinate, allowance}
+use Rattle.words.specs.Records.{numbered, record_in}
 
 -- the bytes of w stand in f from byte i on
 abbrev pub stands : List ℕ → ℕ → List ℕ → Bool
@@ -95,7 +97,7 @@ module _ (count : ℕ) (word : List ℕ) (fs : List (List ℕ)) where
     unfolding is
     near-record d a h i r s = rw (to_z-of_z w64 x f, to_z-of_z w64 y g, to_z-of_z w64 d h) (grind (arith, nat_tests))
 
-  -- what is made of a record's count, its word and its numbers, where the word is not LINE, is the record
+  -- what is made of a record's count, its word and its numbers, where it is no LINE of two fields, is the record
   pub made-numbered : {made : Record} → made ≡ record_in count word fs → is count word LINE 2 ≡ false
       → made ≡ numbered count word fs
   made-numbered e no-line =
